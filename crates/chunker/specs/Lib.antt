@@ -1,0 +1,7 @@
+pub mod Scanner
+pub mod Move
+pub mod Answers
+pub mod Chunks
+pub mod Method
+pub mod Splitting
+pub mod KeptMaximum

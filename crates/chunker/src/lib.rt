@@ -1,0 +1,105 @@
+// Content-defined chunking by Asymmetric Extremum: a scanner that is handed a job in parts and
+// says where its chunks end.
+ghost use mathlib.Core.Path.{_≡_};
+ghost use Rattle.chunker.specs.Answers.{opened, fed, finished};
+ghost use Rattle.chunker.specs.Scanner.{fresh};
+
+mod ground;
+mod scan;
+
+use refusal::Refusal;
+
+// What is known of the open chunk: its window, the bytes since the last cut, the place of the
+// largest byte so far (first on a tie, counted from 1) and its value.
+pub struct Scanner {
+    pub window: u32,
+    pub count: u32,
+    pub place: u32,
+    pub value: u8,
+}
+
+pub struct Opened {
+    pub refusal: Refusal,
+    pub scanner: Scanner,
+}
+
+// How many bytes of the part were consumed, and whether a cut follows them.
+pub struct Fed {
+    pub refusal: Refusal,
+    pub scanner: Scanner,
+    pub consumed: usize,
+    pub cut: bool,
+}
+
+// The count is the length of the last chunk, 0 where there is none.
+pub struct Finished {
+    pub refusal: Refusal,
+    pub scanner: Scanner,
+    pub count: u32,
+}
+
+// A scanner with no byte since the last cut.
+fn fresh(window: u32) -> Scanner
+    ensures { λ r. ⌜ r ≡ fresh window ⌝ }
+{
+    Scanner {
+        window,
+        count: 0,
+        place: 0,
+        value: 0,
+    }
+}
+
+// A fresh scanner. Refused by ground 1, with all zeros.
+pub fn open(window: u32) -> Opened
+    ensures { λ r. ⌜ r ≡ opened window ⌝ }
+{
+    if ground::window_allowed(window) {
+        return Opened {
+            refusal: Refusal::Accepted,
+            scanner: fresh(window),
+        };
+    }
+    Opened {
+        refusal: Refusal::Window,
+        scanner: fresh(0),
+    }
+}
+
+// Moves the scanner on over a part, up to and including the byte that ends a chunk, or over the
+// whole part. Refused by grounds 1 and 2, with the scanner handed back.
+pub fn feed(scanner: Scanner, part: &[u8]) -> Fed
+    ensures { λ r. ⌜ r ≡ fed scanner (now (part .entry)) ⌝ }
+{
+    let refusal = ground::of(scanner);
+    if !refusal::accepted(refusal) {
+        return Fed {
+            refusal,
+            scanner,
+            consumed: 0,
+            cut: false,
+        };
+    }
+    scan::scan(scanner, part)
+}
+
+// Tells the length of the chunk that no cut has ended, and starts afresh with the same window.
+// Refused by grounds 1 and 2, with the scanner handed back.
+pub fn finish(scanner: Scanner) -> Finished
+    ensures { λ r. ⌜ r ≡ finished scanner ⌝ }
+{
+    let refusal = ground::of(scanner);
+    if !refusal::accepted(refusal) {
+        return Finished {
+            refusal,
+            scanner,
+            count: 0,
+        };
+    }
+    let window = scanner.window;
+    Finished {
+        refusal,
+        scanner: fresh(window),
+        count: scanner.count,
+    }
+}
