@@ -1,7 +1,15 @@
 pub mod Moves
 pub mod Appending
 pub mod Soundness
-pub mod Scanning
-pub mod Underway
+pub mod Reached
+pub mod FirstCut
+pub mod ChunkSizes
+pub mod EverySplitting
 pub mod Tracking
 pub mod PublishedMethod
+pub mod KeptMaximum
+pub mod CutPlaces
+pub mod SharedEnding
+pub mod SharedBeginning
+pub mod Scanning
+pub mod Underway

@@ -3,18 +3,18 @@ use Prim.Native.Nat.{ℕ, zero, suc, _+_, _*_, _≤_, _<_, min}
 use native.Mathlib.Omega.{arith}
 use native.Mathlib.Nat.{mul-le-mul-right}
 use mathlib.Core.Path.{_≡_, refl, _∙_}
-use mathlib.Core.Bool.{Bool, true, false, cond, _&&_, _||_, and-eq-true-iff}
+use mathlib.Core.Bool.{Bool, true, false, cond, _||_, and-eq-true-iff}
 use mathlib.Core.List.{List, [], _∷_, _++_}
-use lib.Dec.{leb, ltb, eqb}
+use lib.Dec.{leb}
+use lib.ListN.{drop}
 use borrow.Author.Tests.{leb-true, ltb-true, eqb-true, le-leb, lt-ltb, eq-eqb, ne-eqb}
-use Rattle.refusal.specs.declared.Refusal.{Refusal}
 use Rattle.refusal.specs.declared.Refusal.the-variants.{Accepted, Window, Unsound}
-use Rattle.refusal.specs.Number.{accepted, numberOf}
+use Rattle.refusal.specs.Number.{accepted}
 use Rattle.chunker.specs.declared.Scanner.{Scanner}
 use Rattle.chunker.specs.declared.Fed.{Fed}
 use Rattle.chunker.specs.Scanner.{fresh, windowAllowed, untouched, consistent, sound, groundOf}
 use Rattle.chunker.specs.Move.{Move, Rise, Hold, Cut, move, moved, next}
-use Rattle.chunker.specs.Answers.{opened, consumed, stopAtCut, scan, fed, finished}
+use Rattle.chunker.specs.Answers.{opened, stopAtCut, scan, fed, finished}
 use Rattle.chunker.specs.Chunks.{after}
 use Rattle.chunker.proofs.Moves.{Moved, starts, rises, holds, cuts, facts}
 
@@ -35,16 +35,19 @@ by-ground true true e = (refl, refl)
 by-ground true false e = (refl, cc)
 by-ground false y e = (cc, cc)
 
+-- what the test of a window says
 pub window-bounds : (w : ℕ) → windowAllowed w ≡ true → (1 ≤ w) × (w ≤ 1024)
 unfolding windowAllowed
 window-bounds w e = let k = and-eq-true-iff (leb 1 w) (leb w 1024) .0 e in omega (arith, leb-true)
 
+-- the numbers of a scanner of an allowed window, by the tests that make up `sound`
 module _ (s : Scanner) (byte : s .value < 256) (low : 1 ≤ s .window) (high : s .window ≤ 1024) where
   by-tests : (x y : Bool) → untouched s ≡ x → consistent s ≡ y → x || y ≡ true → Sound s
   unfolding untouched consistent
   by-tests true y p q e = let k = simp and-eq-true-iff at p in omega (arith, eqb-true)
   by-tests false y p q e = let k = simp and-eq-true-iff at (q ∙ e) in omega (arith, leb-true, ltb-true)
 
+-- an accepted scanner is sound
 pub ground-sound : (s : Scanner) → s .value < 256 → groundOf s ≡ Accepted → Sound s
 unfolding groundOf sound
 ground-sound s h e =
@@ -52,6 +55,7 @@ ground-sound s h e =
     let b = window-bounds (s .window) (k .0) in
     by-tests s h (b .0) (b .1) _ _ refl refl (k .1)
 
+-- the one ground that counts as accepted
 pub accepted-ground : (s : Scanner) → accepted (groundOf s) ≡ true → groundOf s ≡ Accepted
 unfolding groundOf
 accepted-ground s e = by-cases (windowAllowed (s .window)) (sound s) e
@@ -76,18 +80,22 @@ by-count s (suc n) e h =
       le-leb (s .place) (s .value * s .window + 1) (h .reach),
     )
 
+-- a window within the bounds passes the test
 pub window-allowed : (w : ℕ) → 1 ≤ w → w ≤ 1024 → windowAllowed w ≡ true
 unfolding windowAllowed
 window-allowed w low high = rw (le-leb 1 w low, le-leb w 1024 high)
 
+-- a sound scanner is accepted
 pub sound-ground : (s : Scanner) → Sound s → groundOf s ≡ Accepted
 unfolding groundOf
 sound-ground s h = rw (window-allowed (s .window) (h .low) (h .high), by-count s _ refl h)
 
+-- a fresh scanner of an allowed window is sound
 pub fresh-sound : (w : ℕ) → 1 ≤ w → w ≤ 1024 → Sound (fresh w)
 fresh-sound w l h = omega arith
 
 module _ (s : Scanner) (b : ℕ) (small : b < 256) (h : Sound s) where
+  -- each move keeps the facts
   by-move : {m : Move} → Moved s b m → Sound (moved m s b)
   by-move (starts e) = omega arith
   by-move (rises l) = omega (arith, mul-le-mul-right (s .window) l)
@@ -104,16 +112,32 @@ abbrev pub Bytes : List ℕ → Type 0
 Bytes [] = Unit {0}
 Bytes (b ∷ bs) = (b < 256) × Bytes bs
 
+pub bytes-append : (x y : List ℕ) → Bytes x → Bytes y → Bytes (x ++ y)
+bytes-append [] y k l = l
+bytes-append (b ∷ x) y k l = (k .0, bytes-append x y (k .1) l)
+
+pub bytes-parts : (x y : List ℕ) → Bytes (x ++ y) → Bytes x × Bytes y
+bytes-parts [] y k = (tt, k)
+bytes-parts (b ∷ x) y k = let h = bytes-parts x y (k .1) in ((k .0, h .0), h .1)
+
+pub bytes-drop : (j : ℕ) (xs : List ℕ) → Bytes xs → Bytes (drop j xs)
+bytes-drop zero xs k = k
+bytes-drop (suc j) [] k = k
+bytes-drop (suc j) (b ∷ bs) k = bytes-drop j bs (k .1)
+
+-- bytes keep a scanner sound
 pub after-sound : (s : Scanner) (xs : List ℕ) → Bytes xs → Sound s → Sound (after s xs)
 unfolding after
 after-sound s [] k h = h
 after-sound s (b ∷ bs) k h = after-sound (next s b) bs (k .1) (next-sound s b (k .0) h)
 
+-- the answer to a part ends with one of two scanners
 either : (m : Move) (x y : Fed) → Sound (x .scanner) → Sound (y .scanner) → Sound (stopAtCut m x y .scanner)
 either Rise x y h k = k
 either Hold x y h k = k
 either Cut x y h k = h
 
+-- reading a part keeps a scanner sound
 pub scan-sound : (s : Scanner) (n : ℕ) (xs : List ℕ) → Bytes xs → Sound s → Sound (scan s n xs .scanner)
 unfolding scan
 scan-sound s n [] k h = h
@@ -125,12 +149,15 @@ pub fed-accepted : (s : Scanner) (part : List ℕ) → groundOf s ≡ Accepted �
 unfolding fed
 fed-accepted s part e = rw e
 
+-- a scanner that feeding answers with is accepted again
 pub feed-keeps-sound : (s : Scanner) (part : List ℕ) → s .value < 256 → Bytes part → groundOf s ≡ Accepted
     → groundOf (fed s part .scanner) ≡ Accepted
 feed-keeps-sound s part h k e =
     rw (fed-accepted s part e) (sound-ground _ (scan-sound s 0 part k (ground-sound s h e)))
 
-pub finish-keeps-sound : (s : Scanner) → s .value < 256 → groundOf s ≡ Accepted → groundOf (finished s .scanner) ≡ Accepted
+-- a scanner that finishing answers with is accepted again
+pub finish-keeps-sound : (s : Scanner) → s .value < 256 → groundOf s ≡ Accepted
+    → groundOf (finished s .scanner) ≡ Accepted
 unfolding finished
 finish-keeps-sound s h e =
     let g = ground-sound s h e in rw e (sound-ground _ (fresh-sound (s .window) (g .low) (g .high)))
@@ -140,6 +167,7 @@ pub opened-fresh : (w : ℕ) → windowAllowed w ≡ true → opened w .scanner 
 unfolding opened
 opened-fresh w e = rw e
 
+-- an opened scanner is accepted
 pub open-sound : (w : ℕ) → windowAllowed w ≡ true → groundOf (opened w .scanner) ≡ Accepted
 open-sound w e =
     let k = window-bounds w e in rw (opened-fresh w e) (sound-ground (fresh w) (fresh-sound w (k .0) (k .1)))
