@@ -14,7 +14,8 @@ use Rattle.chunker.specs.Splitting.{joined}
 use Rattle.chunker.proofs.Moves.{Moved, starts, rises, holds, cuts, facts}
 use Rattle.chunker.proofs.Appending.{next-window, after-window}
 use Rattle.chunker.proofs.FirstCut.{chunksFrom}
-use Rattle.chunker.proofs.Soundness.{Sound, Bytes, fresh-sound, next-sound, after-sound}
+use Rattle.chunker.specs.Bytes.{Bytes}
+use Rattle.chunker.proofs.Soundness.{Sound, fresh-sound, next-sound, after-sound}
 
 -- a sound scanner's count is bounded by its window
 pub sound-count : (s : Scanner) → Sound s → s .count ≤ 256 * s .window

@@ -14,7 +14,8 @@ use Rattle.chunker.specs.Scanner.{fresh, windowAllowed, groundOf}
 use Rattle.chunker.specs.Answers.{opened, scan, fed, finished}
 use Rattle.chunker.specs.Chunks.{after, cutChunks, remaining, chunks}
 use Rattle.chunker.specs.Splitting.{joined, Feeding, cutting, passing, finishing}
-use Rattle.chunker.proofs.Soundness.{Sound, Bytes, bytes-parts, bytes-drop, window-bounds, opened-fresh, accepted-ground, sound-ground, fresh-sound, after-sound, fed-accepted}
+use Rattle.chunker.specs.Bytes.{Bytes}
+use Rattle.chunker.proofs.Soundness.{Sound, bytes-parts, bytes-drop, window-bounds, opened-fresh, accepted-ground, sound-ground, fresh-sound, after-sound, fed-accepted}
 use Rattle.chunker.proofs.ChunkSizes.{after-count}
 use Rattle.chunker.proofs.FirstCut.{Scanned, whole, upTo, scanned, chunksFrom, chunks-whole, chunks-cut}
 

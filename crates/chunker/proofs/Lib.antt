@@ -3,6 +3,7 @@ pub mod Appending
 pub mod Soundness
 pub mod Reached
 pub mod FirstCut
+pub mod NextChunk
 pub mod ChunkSizes
 pub mod EverySplitting
 pub mod Tracking

@@ -12,7 +12,8 @@ use Rattle.chunker.specs.Scanner.{fresh, groundOf}
 use Rattle.chunker.specs.Move.{Rise, move, next, rise, hold}
 use Rattle.chunker.specs.Answers.{opened, consumed, scan, fed}
 use Rattle.chunker.proofs.Moves.{move-start, move-rise, move-hold}
-use Rattle.chunker.proofs.Soundness.{Sound, Bytes, bytes-append, ground-sound, sound-ground, fresh-sound, window-allowed, opened-fresh, fed-accepted}
+use Rattle.chunker.specs.Bytes.{Bytes}
+use Rattle.chunker.proofs.Soundness.{Sound, bytes-append, ground-sound, sound-ground, fresh-sound, window-allowed, opened-fresh, fed-accepted}
 
 -- a part after which a fresh scanner is s, with no cut on the way
 record Reaching (w : ℕ) (s : Scanner) : Type 0 where

@@ -7,7 +7,7 @@ use lib.Dec.{leb}
 use lib.ListN.{length, take, drop, length-append, length-take, take-append-drop}
 use Rattle.chunker.specs.Scanner.{fresh}
 use Rattle.chunker.specs.Chunks.{after, cutChunks, remaining, chunks, ends, cuts, endingCuts, startingAfter}
-use Rattle.chunker.specs.KeptMaximum.{KeptMaximum}
+use Rattle.chunker.specs.KeptMaximum.{KeptMaximum, LinedUp}
 use Rattle.chunker.proofs.Appending.{cutChunks-append, remaining-append}
 use Rattle.chunker.proofs.CutPlaces.{total, total-cut, NoneEmpty, cut-none-empty}
 use Rattle.chunker.proofs.CutPlaces.{ends-append, ends-from, those-append, those-from, those-last}
@@ -79,13 +79,6 @@ module _ (w : ℕ) (h : 1 ≤ w) (x e : List ℕ) (k : ℕ) (m : KeptMaximum w e
         later,
       )
       (ap₂ _∷_ (omega arith) (ends-from (length x) (k + w) 0 (0 + total cs) (omega arith) ds))
-
--- from w places after a kept maximum of the ending e on, the jobs x ++ e and y ++ e are cut alike
-pub record LinedUp (w : ℕ) (x y e : List ℕ) (k : ℕ) : Type 0 where
-  pub cutThere : (ps : List ℕ) × (endingCuts w x e (k + w) ≡ (k + w) ∷ ps)
-  pub sameCuts : endingCuts w x e (k + w) ≡ endingCuts w y e (k + w)
-  pub sameChunks : startingAfter (length x + (k + w)) (chunks w (x ++ e))
-      ≡ startingAfter (length y + (k + w)) (chunks w (y ++ e))
 
 -- two jobs with the same ending line up after a kept maximum of it
 pub lines-up : (w : ℕ) → 1 ≤ w → (x y e : List ℕ) (k : ℕ) → KeptMaximum w e k → LinedUp w x y e k

@@ -15,6 +15,7 @@ use Rattle.chunker.specs.declared.Fed.{Fed}
 use Rattle.chunker.specs.Scanner.{fresh, windowAllowed, untouched, consistent, sound, groundOf}
 use Rattle.chunker.specs.Move.{Move, Rise, Hold, Cut, move, moved, next}
 use Rattle.chunker.specs.Answers.{opened, stopAtCut, scan, fed, finished}
+use Rattle.chunker.specs.Bytes.{Bytes}
 use Rattle.chunker.specs.Chunks.{after}
 use Rattle.chunker.proofs.Moves.{Moved, starts, rises, holds, cuts, facts}
 
@@ -106,11 +107,6 @@ module _ (s : Scanner) (b : ℕ) (small : b < 256) (h : Sound s) where
   pub next-sound : Sound (next s b)
   unfolding next
   next-sound = by-move (facts s b)
-
--- every member is a byte
-abbrev pub Bytes : List ℕ → Type 0
-Bytes [] = Unit {0}
-Bytes (b ∷ bs) = (b < 256) × Bytes bs
 
 pub bytes-append : (x y : List ℕ) → Bytes x → Bytes y → Bytes (x ++ y)
 bytes-append [] y k l = l

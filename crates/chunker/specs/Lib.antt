@@ -1,3 +1,4 @@
+pub mod Bytes
 pub mod Scanner
 pub mod Move
 pub mod Answers
