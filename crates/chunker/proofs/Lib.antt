@@ -12,5 +12,7 @@ pub mod KeptMaximum
 pub mod CutPlaces
 pub mod SharedEnding
 pub mod SharedBeginning
+pub mod Blocks
 pub mod Scanning
 pub mod Underway
+pub mod BlockSteps

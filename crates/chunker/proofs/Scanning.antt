@@ -14,16 +14,8 @@ use Rattle.chunker.specs.declared.Fed.{Fed}
 use Rattle.chunker.specs.Scanner.{fresh}
 use Rattle.chunker.specs.Move.{Move, Rise, Hold, Cut, move, next}
 use Rattle.chunker.specs.Answers.{consumed, stopAtCut, scan}
+use Rattle.chunker.specs.Run.{standing, onward}
 use Rattle.chunker.proofs.Moves.{move-start, move-rise, move-hold, move-cut, next-by}
-
--- The scanner that has passed i bytes of a part, of whose open chunk `base` bytes came before the part: its place is w before
--- the deadline d, the number of bytes of the part after which the chunk ends if no larger byte comes
-abbrev pub standing : ℕ → ℕ → ℕ → ℕ → ℕ → Scanner
-standing w base d v i = record { window = w; count = base + i; place = base + d - w; value = v }
-
--- what the rest of the part from index i gives
-unfoldable pub onward : List ℕ → ℕ → ℕ → ℕ → ℕ → ℕ → Fed
-onward part w base d v i = scan (standing w base d v i) i (drop i part)
 
 scan-by : (s : Scanner) (n b : ℕ) (bs : List ℕ) (m : Move) → move s b ≡ m
     → scan s n (b ∷ bs) ≡ stopAtCut m (consumed (next s b) (suc n) true) (scan (next s b) (suc n) bs)

@@ -2,6 +2,8 @@ pub mod Bytes
 pub mod Scanner
 pub mod Move
 pub mod Answers
+pub mod Run
+pub mod Largest
 pub mod Chunks
 pub mod Method
 pub mod Splitting

@@ -5,6 +5,7 @@ ghost use Rattle.chunker.specs.Answers.{opened, fed, finished};
 ghost use Rattle.chunker.specs.Scanner.{fresh};
 
 mod ground;
+mod largest;
 mod scan;
 
 use refusal::Refusal;

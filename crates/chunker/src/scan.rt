@@ -1,23 +1,47 @@
 // The scan of a part of a job for the byte that ends the open chunk.
 ghost use mathlib.Core.Path.{_≡_};
-ghost use Prim.Native.Nat.{_≤_};
-ghost use lib.ListN.{length, drop};
+ghost use Prim.Native.Nat.{_+_, _-_, _^_, _≤_, _<_};
+ghost use mathlib.Core.Bool.{true, false};
 ghost use Rattle.refusal.specs.declared.Refusal.the-variants.{Accepted};
-ghost use Rattle.chunker.specs.Scanner.{groundOf};
-ghost use Rattle.chunker.specs.Answers.{scan};
+ghost use Rattle.chunker.specs.Scanner.{fresh, groundOf};
+ghost use Rattle.chunker.specs.Answers.{scan, consumed};
+ghost use Rattle.chunker.specs.Run.{standing, Going, rest};
 use crate::Fed;
 use crate::Scanner;
 use crate::fresh;
+use crate::largest;
 use refusal::Refusal;
+
+// A scan under way over a part: `base` bytes of the open chunk came before the part, `at` bytes of
+// the part are passed, and the chunk ends after `deadline` of them unless a byte larger than
+// `value` comes.
+pub struct Run {
+    pub window: usize,
+    pub base: usize,
+    pub deadline: usize,
+    pub value: u8,
+    pub at: usize,
+}
 
 // Moves an accepted scanner on over a part. The first byte of a chunk is its largest so far.
 pub fn scan(scanner: Scanner, part: &[u8]) -> Fed
     requires { ⌜ groundOf scanner ≡ Accepted ⌝ }
     ensures { λ r. ⌜ r ≡ scan scanner 0 (now (part .entry)) ⌝ }
 {
-    let count = scanner.count;
+    let window = scanner.window as usize;
+    let count = scanner.count as usize;
     if count != 0 {
-        return by_bytes(scanner, part, 0);
+        let deadline = scanner.place as usize + window - count;
+        return on(
+            Run {
+                window,
+                base: count,
+                deadline,
+                value: scanner.value,
+                at: 0,
+            },
+            part,
+        );
     }
     if part.len() == 0 {
         return Fed {
@@ -27,59 +51,153 @@ pub fn scan(scanner: Scanner, part: &[u8]) -> Fed
             cut: false,
         };
     }
-    by_bytes(
-        Scanner {
-            window: scanner.window,
-            count: 1,
-            place: 1,
+    on(
+        Run {
+            window,
+            base: 0,
+            deadline: 1 + window,
             value: part[0],
+            at: 1,
         },
         part,
-        1,
     )
 }
 
-// Moves an accepted scanner with an open chunk on over a part, from a place of it up to which the
-// scanner has counted. `deadline` is the number of bytes of the part after which the chunk ends
-// unless a larger byte comes.
-fn by_bytes(scanner: Scanner, part: &[u8], from: usize) -> Fed
-    requires { ⌜ groundOf scanner ≡ Accepted ⌝ }
-    requires { ⌜ 1 ≤ scanner .count ⌝ }
-    requires { ⌜ from ≤ scanner .count ⌝ }
-    requires { ⌜ from ≤ length (now part) ⌝ }
-    ensures { λ r. ⌜ r ≡ scan scanner from (drop from (now (part .entry))) ⌝ }
+// Goes on over the rest of the part: a block at a time where a window holds one.
+fn on(run: Run, part: &[u8]) -> Fed
+    requires { ⌜ Going run (now part) ⌝ }
+    ensures { λ r. ⌜ r ≡ rest run (now (part .entry)) ⌝ }
 {
-    let window = scanner.window as usize;
-    let base = scanner.count as usize - from;
-    let mut deadline = scanner.place as usize + window - base;
-    let mut value = scanner.value;
-    let mut i = from;
-    while i < part.len() {
-        let byte = part[i];
-        i += 1;
-        if byte > value {
-            value = byte;
-            deadline = i + window;
-        } else {
-            if i == deadline {
-                return Fed {
-                    refusal: Refusal::Accepted,
-                    scanner: fresh(scanner.window),
-                    consumed: i,
-                    cut: true,
-                };
-            }
-        }
+    if run.window < 16 {
+        return by_bytes(run, part);
     }
+    by_blocks(run, part)
+}
+
+// The part is passed, and no cut follows it.
+fn passed(run: Run) -> Fed
+    requires { ⌜ run .base + run .at < 2 ^ 32 ⌝ }
+    requires { ⌜ run .base + run .deadline < 2 ^ 32 ⌝ }
+    requires { ⌜ run .window < run .base + run .deadline ⌝ }
+    ensures { λ r. ⌜ r ≡ consumed (standing (run .window) (run .base) (run .deadline) (run .value) (run .at)) (run .at) false ⌝ }
+{
+    let window = run.window;
+    let count = run.base + run.at;
+    let place = run.base + run.deadline - window;
     Fed {
         refusal: Refusal::Accepted,
         scanner: Scanner {
-            window: scanner.window,
-            count: (base + i) as u32,
-            place: (base + deadline - window) as u32,
-            value,
+            window: window as u32,
+            count: count as u32,
+            place: place as u32,
+            value: run.value,
         },
-        consumed: i,
+        consumed: run.at,
         cut: false,
     }
+}
+
+// A cut follows the bytes up to `at`.
+fn cut(window: usize, at: usize) -> Fed
+    requires { ⌜ window < 2 ^ 32 ⌝ }
+    ensures { λ r. ⌜ r ≡ consumed (fresh window) at true ⌝ }
+{
+    Fed {
+        refusal: Refusal::Accepted,
+        scanner: fresh(window as u32),
+        consumed: at,
+        cut: true,
+    }
+}
+
+// A byte at a time.
+fn by_bytes(run: Run, part: &[u8]) -> Fed
+    requires { ⌜ Going run (now part) ⌝ }
+    ensures { λ r. ⌜ r ≡ rest run (now (part .entry)) ⌝ }
+{
+    let window = run.window;
+    let base = run.base;
+    let mut deadline = run.deadline;
+    let mut value = run.value;
+    let mut at = run.at;
+    while at < part.len() {
+        let byte = part[at];
+        at += 1;
+        if byte > value {
+            value = byte;
+            deadline = at + window;
+        } else {
+            if at == deadline {
+                return cut(window, at);
+            }
+        }
+    }
+    passed(Run {
+        window,
+        base,
+        deadline,
+        value,
+        at,
+    })
+}
+
+// A block at a time: of the bytes up to the deadline only the first of the largest can matter. A
+// block of fewer than 16 new bytes reaches back over bytes that are not larger than `value`.
+fn by_blocks(run: Run, part: &[u8]) -> Fed
+    requires { ⌜ Going run (now part) ⌝ }
+    requires { ⌜ 16 ≤ run .window ⌝ }
+    ensures { λ r. ⌜ r ≡ rest run (now (part .entry)) ⌝ }
+{
+    let window = run.window;
+    let base = run.base;
+    let mut deadline = run.deadline;
+    let mut value = run.value;
+    let mut at = run.at;
+    while at < part.len() {
+        let end = largest::lesser(deadline, part.len());
+        if end < 16 {
+            return by_bytes(
+                Run {
+                    window,
+                    base,
+                    deadline,
+                    value,
+                    at,
+                },
+                part,
+            );
+        }
+        if end < deadline {
+            if end - at < 16 {
+                return by_bytes(
+                    Run {
+                        window,
+                        base,
+                        deadline,
+                        value,
+                        at,
+                    },
+                    part,
+                );
+            }
+        }
+        let block = largest::pick(part, at, end);
+        let most = block.most;
+        at = block.to;
+        if most > value {
+            value = most;
+            deadline = largest::first_of(part, block) + 1 + window;
+        } else {
+            if at == deadline {
+                return cut(window, at);
+            }
+        }
+    }
+    passed(Run {
+        window,
+        base,
+        deadline,
+        value,
+        at,
+    })
 }

@@ -1,0 +1,58 @@
+-- `chunker::largest::first_of` meets its contract.
+use Prim.Native.Nat.{_-_}
+use native.Mathlib.Omega.{arith}
+use lib.ListN.{length}
+use Rattle.chunker.proofs.Blocks.{Searching, searching-room, searching-on, unseen-none, unseen-first, stands-wider}
+use Rattle.chunker.proofs.largest.first_of.Statement.{statement}
+use Rattle.chunker.proofs.largest.first_of.Tie as tie
+
+abbrev Inv-loop : tie.InvT-loop
+Inv-loop part most at₀ at = Searching part at₀ most at
+
+abbrev μ-loop : tie.MeasureT-loop
+μ-loop part most at₀ at = length part - at
+
+loop-holds : tie.Need-loop-holds Inv-loop μ-loop
+loop-holds c =
+    let start = c .before in
+    record {
+      end = start .args .block .to;
+      within = start .pre .1 .1;
+      whole = start .pre .1 .0;
+      most = start .pre .0 .most;
+      unseen = unseen-none _ _ _ _ (start .pre .0 .stands);
+    }
+
+of-16-requires : tie.Need-of-16-requires Inv-loop μ-loop
+of-16-requires c κs = searching-room _ _ _ _ (c .loop .inv)
+
+add-at : tie.Need-add-at Inv-loop μ-loop
+add-at c = omega (arith, searching-room _ _ _ _ (c .before .before .loop .inv))
+
+loop-less : tie.Need-loop-less Inv-loop μ-loop
+loop-less c = omega (arith, searching-room _ _ _ _ (c .before .before .loop .inv))
+
+loop-again : tie.Need-loop-again Inv-loop μ-loop
+loop-again c = searching-on _ _ _ _ (c .before .before .loop .inv) _ (c .before .of-16 .ensures) (c .if1 .taken)
+
+place-of-requires : tie.Need-place-of-requires Inv-loop μ-loop
+place-of-requires c κs =
+    let s = c .before .before .loop .inv in
+    stands-wider _ _ _ _ _ (s .within) (s .unseen .stands)
+
+returns : tie.Need-returns Inv-loop μ-loop
+returns c = unseen-first _ _ _ _ _ _ (c .before .before .before .loop .inv .unseen) (c .place-of .ensures)
+
+pub first-of-spec : {M : Type 1} → statement M
+first-of-spec =
+    tie.close
+    (tie.spec
+    Inv-loop
+    μ-loop
+    loop-holds
+    of-16-requires
+    add-at
+    loop-less
+    loop-again
+    place-of-requires
+    returns)

@@ -1,0 +1,37 @@
+-- A scan under way over a part: its numbers, and what the rest of the part gives.
+use Prim.Native.Nat.{ℕ, _+_, _-_, _*_, _≤_, _<_}
+use mathlib.Core.List.{List}
+use lib.ListN.{length, getD, drop}
+use Rattle.chunker.specs.declared.Scanner.{Scanner}
+use Rattle.chunker.specs.declared.Fed.{Fed}
+use Rattle.chunker.specs.declared.scan.Run.{Run}
+use Rattle.chunker.specs.Answers.{scan}
+
+-- the scanner after i bytes of a part, of whose open chunk `base` bytes came before the part: its place is w before the
+-- deadline d, the number of bytes of the part after which the chunk ends if no larger byte comes
+abbrev pub standing : ℕ → ℕ → ℕ → ℕ → ℕ → Scanner
+standing w base d v i = record { window = w; count = base + i; place = base + d - w; value = v }
+
+-- what the rest of the part from index i on gives
+unfoldable pub onward : List ℕ → ℕ → ℕ → ℕ → ℕ → ℕ → Fed
+onward part w base d v i = scan (standing w base d v i) i (drop i part)
+
+-- the numbers of such a scan with an open chunk: those of a sound scanner, and no byte since the place is larger than v
+pub record InOrder (part : List ℕ) (w base d v i : ℕ) : Type 0 where
+  pub low : 1 ≤ w
+  pub high : w ≤ 1024
+  pub index : i ≤ length part
+  pub begun : 1 ≤ base + i
+  pub live : i < d
+  pub near : d ≤ i + w
+  pub fits : w < base + d
+  pub reach : base + d ≤ v * w + 1 + w
+  pub byte : v < 256
+  pub seen : (q : ℕ) → d ≤ q + w → q < i → getD part q 0 ≤ v
+
+-- the same of the numbers of a run
+abbrev pub Going : Run → List ℕ → Type 0
+Going r part = InOrder part (r .window) (r .base) (r .deadline) (r .value) (r .at)
+
+abbrev pub rest : Run → List ℕ → Fed
+rest r part = onward part (r .window) (r .base) (r .deadline) (r .value) (r .at)

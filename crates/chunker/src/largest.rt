@@ -1,0 +1,111 @@
+// The largest byte of a stretch of a part, a block at a time.
+ghost use mathlib.Core.Path.{_≡_};
+ghost use Prim.Native.Nat.{_+_, _-_, _%_, min, _≤_, _<_};
+ghost use lib.ListN.{length};
+ghost use Rattle.chunker.specs.Largest.{Stands, AtMost, Largest, FirstAt, Picked};
+
+// The bytes from `from` up to `to`, of which `most` is the largest.
+pub struct Block {
+    pub from: usize,
+    pub to: usize,
+    pub most: u8,
+}
+
+pub fn lesser(a: usize, b: usize) -> usize
+    ensures { λ r. ⌜ r ≡ min a b ⌝ }
+{
+    if a < b { a } else { b }
+}
+
+// The largest of 16 bytes.
+fn of_16(part: &[u8], from: usize) -> u8
+    requires { ⌜ from + 16 ≤ length (now part) ⌝ }
+    ensures { λ r. ⌜ Largest (now (part .entry)) from (from + 16) r ⌝ }
+{
+    let mut most = part[from];
+    let mut i = 0;
+    while i < 16 {
+        let byte = part[from + i];
+        i += 1;
+        if byte > most {
+            most = byte;
+        }
+    }
+    most
+}
+
+// The largest of 64 bytes.
+fn of_64(part: &[u8], from: usize) -> u8
+    requires { ⌜ from + 64 ≤ length (now part) ⌝ }
+    ensures { λ r. ⌜ Largest (now (part .entry)) from (from + 64) r ⌝ }
+{
+    let mut most = part[from];
+    let mut i = 0;
+    while i < 64 {
+        let byte = part[from + i];
+        i += 1;
+        if byte > most {
+            most = byte;
+        }
+    }
+    most
+}
+
+// A block from `at` on of 64 bytes, or of 16, or the last 16 before `end`: the largest that ends
+// by `end`.
+pub fn pick(part: &[u8], at: usize, end: usize) -> Block
+    requires { ⌜ at < end ⌝ }
+    requires { ⌜ end ≤ length (now part) ⌝ }
+    requires { ⌜ 16 ≤ end ⌝ }
+    ensures { λ r. ⌜ Picked (now (part .entry)) at end r ⌝ }
+{
+    let left = end - at;
+    if 64 <= left {
+        return Block {
+            from: at,
+            to: at + 64,
+            most: of_64(part, at),
+        };
+    }
+    if 16 <= left {
+        return Block {
+            from: at,
+            to: at + 16,
+            most: of_16(part, at),
+        };
+    }
+    let from = end - 16;
+    Block {
+        from,
+        to: end,
+        most: of_16(part, from),
+    }
+}
+
+// The first index of a block at which its largest byte stands: first the 16 bytes that have it,
+// then its place among them.
+pub fn first_of(part: &[u8], block: Block) -> usize
+    requires { ⌜ Largest (now part) (block .from) (block .to) (block .most) ⌝ }
+    requires { ⌜ (block .to - block .from) % 16 ≡ 0 ⌝ }
+    requires { ⌜ block .to ≤ length (now part) ⌝ }
+    ensures { λ r. ⌜ FirstAt (now (part .entry)) (block .from) (block .most) r ⌝ }
+{
+    let most = block.most;
+    let mut at = block.from;
+    while of_16(part, at) != most {
+        at += 16;
+    }
+    place_of(part, at, most)
+}
+
+// The first index from `from` on at which `byte` stands.
+fn place_of(part: &[u8], from: usize, byte: u8) -> usize
+    requires { ⌜ Stands (now part) from (length (now part)) byte ⌝ }
+    ensures { λ r. ⌜ FirstAt (now (part .entry)) from byte r ⌝ }
+{
+    let mut at = from;
+    while part[at] != byte {
+        at += 1;
+    }
+    at
+}
