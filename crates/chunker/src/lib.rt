@@ -104,3 +104,13 @@ pub fn finish(scanner: Scanner) -> Finished
         count: scanner.count,
     }
 }
+
+// Moves the line controller's own scanner on in its place, with the same answer.
+pub fn feed_in_place(scanner: &mut Scanner, part: &[u8]) -> Fed
+    ensures { λ r. ⌜ (r ≡ fed (now (scanner .entry)) (now (part .entry)))
+        × (now (scanner .exit) ≡ fed (now (scanner .entry)) (now (part .entry)) .scanner) ⌝ }
+{
+    let answer = feed(*scanner, part);
+    *scanner = answer.scanner;
+    answer
+}
