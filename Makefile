@@ -1,6 +1,14 @@
 # Each target does all of its own set-up.
 export RT_JOBS ?= 2
 
-.PHONY: test
+.PHONY: test bench
 test:
 	@rt ci
+
+# Measures the proved chunker beside plain implementations of the same method.
+bench:
+	@mkdir -p target/bench
+	@rt staticlib chunk_count >target/bench/staticlib.log 2>&1 || { cat target/bench/staticlib.log; exit 1; }
+	@python3 bench/inputs.py target/bench
+	@rustc --edition 2021 -O -L native=target/staticlib -o target/bench/bench bench/main.rs
+	@target/bench/bench target/bench
