@@ -16,3 +16,4 @@ pub mod Blocks
 pub mod Scanning
 pub mod Underway
 pub mod BlockSteps
+pub mod LargeBlocks

@@ -1,7 +1,7 @@
 -- A scan under way, as the loops keep it: its numbers are in order, and what is still to do gives what was asked.
 use Prim.Native.Nat.{ℕ, suc, _+_, _-_, _*_, _^_, _≤_, _<_}
 use native.Mathlib.Omega.{arith}
-use native.Mathlib.Nat.{add-zero, mul-le-mul, mul-le-mul-right, suc-mul}
+use native.Mathlib.Nat.{le-refl, add-zero, mul-le-mul, mul-le-mul-right, suc-mul}
 use native.Mathlib.Decide.{decLt}
 use mathlib.Core.Path.{_≡_, sym, _∙_, subst}
 use mathlib.Core.Bool.{true, false}
@@ -67,6 +67,10 @@ module _ (s : Scanner) (part : List ℕ) (sound : Sound s) where
       let place : 0 + (1 + s .window) - s .window ≡ 1 = omega arith in
       rw place (sym (starts s part fresh some))
 
+-- what holds at i holds at each index from i up to i + 1
+pub at-one : (P : ℕ → Type 0) (i q : ℕ) → P i → i ≤ q → q < i + 1 → P q
+at-one P i q h after within = let same : i ≡ q = omega arith in subst P same h
+
 module _ {part : List ℕ} {w base d v i : ℕ} {asked : Fed} (u : Underway part w base d v i asked) where
   -- a byte larger than v at j, the first maximum of the stretch up to e, is the largest from now on
   pub rises-to : (j e d′ : ℕ) → i ≤ j → j < e → e ≤ length part → e ≤ d → v < getD part j 0 → getD part j 0 < 256
@@ -130,13 +134,24 @@ module _ {part : List ℕ} {w base d v i : ℕ} {asked : Fed} (u : Underway part
   pub stops : length part ≤ i → consumed (standing w base d v i) i false ≡ asked
   stops h = sym (ends part w base d v i h) ∙ u .gives
 
+  -- one byte: larger, not larger, and not larger at the deadline
+  pub byte-rises : i < length part → v < getD part i 0 → getD part i 0 < 256
+      → Underway part w base (i + 1 + w) (getD part i 0) (i + 1) asked
+  byte-rises inside larger byte =
+      rises-to i (i + 1) (i + 1 + w) (omega arith) (omega arith) (omega arith) (omega (arith, u .order .live)) larger byte
+      (λ q a b. absurd (omega arith)) (λ q. at-one (λ x. getD part x 0 ≤ getD part i 0) i q (le-refl _)) (omega arith)
+
+  pub byte-passes : i < length part → getD part i 0 ≤ v → i + 1 < d → Underway part w base d v (i + 1) asked
+  byte-passes inside notLarger early =
+      passes-to (i + 1) (omega arith) (omega arith) early (λ q. at-one (λ x. getD part x 0 ≤ v) i q notLarger)
+
+  pub byte-cuts : i < length part → getD part i 0 ≤ v → i + 1 ≡ d → consumed (fresh w) (i + 1) true ≡ asked
+  byte-cuts inside notLarger due =
+      cuts-to (i + 1) due (omega arith) (λ q. at-one (λ x. getD part x 0 ≤ v) i q notLarger)
+
 -- less is left after a larger index
 pub less-left : (n i k : ℕ) → i < n → i < k → n - k < n - i
 less-left n i k inside further = omega arith
-
--- what holds at i holds at each index from i up to i + 1
-pub at-one : (P : ℕ → Type 0) (i q : ℕ) → P i → i ≤ q → q < i + 1 → P q
-at-one P i q h after within = let same : i ≡ q = omega arith in subst P same h
 
 module _ {part : List ℕ} {w base d v i : ℕ} (o : InOrder part w base d v i) where
   most : v * w ≤ 255 * 1024

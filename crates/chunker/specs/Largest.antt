@@ -27,8 +27,15 @@ pub record FirstAt (xs : List ℕ) (a m j : ℕ) : Type 0 where
   pub is : getD xs j 0 ≡ m
   pub before : (q : ℕ) → a ≤ q → q < j → getD xs q 0 ≡ m → ⊥
 
--- A stretch that ends after index i, at most at `end`, with its largest byte. It starts at i, or before it where fewer than
--- 16 bytes are left, and is one or four times 16 bytes long
+-- j is the first index from a up to e of a byte larger than v, or e
+pub record NextLarger (xs : List ℕ) (a e v j : ℕ) : Type 0 where
+  pub from : a ≤ j
+  pub to : j ≤ e
+  pub before : (q : ℕ) → a ≤ q → q < j → getD xs q 0 ≤ v
+  pub larger : j < e → v < getD xs j 0
+
+-- A block that ends after index i, at most at `end`, with its largest byte. It starts at i, or before it where fewer than 16
+-- bytes are left, and its length is a multiple of 16
 pub record Picked (xs : List ℕ) (i end : ℕ) (b : Block) : Type 0 where
   pub from : b .from ≤ i
   pub back : min i (end - 16) ≤ b .from

@@ -1,5 +1,6 @@
 -- A scan under way over a part: its numbers, and what the rest of the part gives.
 use Prim.Native.Nat.{ℕ, _+_, _-_, _*_, _≤_, _<_}
+use mathlib.Core.Path.{_≡_}
 use mathlib.Core.List.{List}
 use lib.ListN.{length, getD, drop}
 use Rattle.chunker.specs.declared.Scanner.{Scanner}
@@ -35,3 +36,12 @@ Going r part = InOrder part (r .window) (r .base) (r .deadline) (r .value) (r .a
 
 abbrev pub rest : Run → List ℕ → Fed
 rest r part = onward part (r .window) (r .base) (r .deadline) (r .value) (r .at)
+
+-- a run further on in the part, before its end, with the same window and base and the same answer to come
+pub record Passed (r next : Run) (part : List ℕ) : Type 0 where
+  pub window : next .window ≡ r .window
+  pub base : next .base ≡ r .base
+  pub on : r .at ≤ next .at
+  pub going : InOrder part (r .window) (r .base) (next .deadline) (next .value) (next .at)
+  pub gives : onward part (r .window) (r .base) (next .deadline) (next .value) (next .at) ≡ rest r part
+  pub inside : r .at < length part → next .at < length part

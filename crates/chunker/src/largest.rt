@@ -2,7 +2,7 @@
 ghost use mathlib.Core.Path.{_≡_};
 ghost use Prim.Native.Nat.{_+_, _-_, _%_, min, _≤_, _<_};
 ghost use lib.ListN.{length};
-ghost use Rattle.chunker.specs.Largest.{Stands, AtMost, Largest, FirstAt, Picked};
+ghost use Rattle.chunker.specs.Largest.{Stands, AtMost, Largest, FirstAt, NextLarger, Picked};
 
 // The bytes from `from` up to `to`, of which `most` is the largest.
 pub struct Block {
@@ -35,7 +35,7 @@ fn of_16(part: &[u8], from: usize) -> u8
 }
 
 // The largest of 64 bytes.
-fn of_64(part: &[u8], from: usize) -> u8
+pub fn of_64(part: &[u8], from: usize) -> u8
     requires { ⌜ from + 64 ≤ length (now part) ⌝ }
     ensures { λ r. ⌜ Largest (now (part .entry)) from (from + 64) r ⌝ }
 {
@@ -51,8 +51,24 @@ fn of_64(part: &[u8], from: usize) -> u8
     most
 }
 
-// A block from `at` on of 64 bytes, or of 16, or the last 16 before `end`: the largest that ends
-// by `end`.
+// The first index from `from` up to `to` of a byte larger than `value`, or `to` where there is none.
+pub fn next_larger(part: &[u8], from: usize, to: usize, value: u8) -> usize
+    requires { ⌜ from ≤ to ⌝ }
+    requires { ⌜ to ≤ length (now part) ⌝ }
+    ensures { λ r. ⌜ NextLarger (now (part .entry)) from to value r ⌝ }
+{
+    let mut at = from;
+    while at < to {
+        if part[at] > value {
+            return at;
+        }
+        at += 1;
+    }
+    to
+}
+
+// The block of 64 bytes from `at` on, or of 16, or the last 16 bytes before `end`: the longest that
+// ends by `end`.
 pub fn pick(part: &[u8], at: usize, end: usize) -> Block
     requires { ⌜ at < end ⌝ }
     requires { ⌜ end ≤ length (now part) ⌝ }

@@ -1,15 +1,17 @@
 // The scan of a part of a job for the byte that ends the open chunk.
 ghost use mathlib.Core.Path.{_≡_};
+ghost use lib.ListN.{length};
 ghost use Prim.Native.Nat.{_+_, _-_, _^_, _≤_, _<_};
 ghost use mathlib.Core.Bool.{true, false};
 ghost use Rattle.refusal.specs.declared.Refusal.the-variants.{Accepted};
 ghost use Rattle.chunker.specs.Scanner.{fresh, groundOf};
 ghost use Rattle.chunker.specs.Answers.{scan, consumed};
-ghost use Rattle.chunker.specs.Run.{standing, Going, rest};
+ghost use Rattle.chunker.specs.Run.{standing, Going, rest, Passed};
 use crate::Fed;
 use crate::Scanner;
 use crate::fresh;
 use crate::largest;
+use crate::largest::Block;
 use refusal::Refusal;
 
 // A scan under way over a part: `base` bytes of the open chunk came before the part, `at` bytes of
@@ -110,9 +112,41 @@ fn cut(window: usize, at: usize) -> Fed
     }
 }
 
-// A byte at a time.
+// From one larger byte to the next, while the chunk can end in the part.
 fn by_bytes(run: Run, part: &[u8]) -> Fed
     requires { ⌜ Going run (now part) ⌝ }
+    ensures { λ r. ⌜ r ≡ rest run (now (part .entry)) ⌝ }
+{
+    let window = run.window;
+    let base = run.base;
+    let mut deadline = run.deadline;
+    let mut value = run.value;
+    let mut at = run.at;
+    while deadline <= part.len() {
+        at = largest::next_larger(part, at, deadline, value);
+        if at == deadline {
+            return cut(window, at);
+        }
+        value = part[at];
+        at += 1;
+        deadline = at + window;
+    }
+    to_end(
+        Run {
+            window,
+            base,
+            deadline,
+            value,
+            at,
+        },
+        part,
+    )
+}
+
+// The bytes of a part in which the chunk cannot end: only a larger one matters.
+fn to_end(run: Run, part: &[u8]) -> Fed
+    requires { ⌜ Going run (now part) ⌝ }
+    requires { ⌜ length (now part) < run .deadline ⌝ }
     ensures { λ r. ⌜ r ≡ rest run (now (part .entry)) ⌝ }
 {
     let window = run.window;
@@ -126,10 +160,6 @@ fn by_bytes(run: Run, part: &[u8]) -> Fed
         if byte > value {
             value = byte;
             deadline = at + window;
-        } else {
-            if at == deadline {
-                return cut(window, at);
-            }
         }
     }
     passed(Run {
@@ -141,8 +171,8 @@ fn by_bytes(run: Run, part: &[u8]) -> Fed
     })
 }
 
-// A block at a time: of the bytes up to the deadline only the first of the largest can matter. A
-// block of fewer than 16 new bytes reaches back over bytes that are not larger than `value`.
+// A block at a time: of the bytes up to the deadline only the first of the largest can matter. The
+// last block before the deadline reaches back over bytes that are not larger than `value`.
 fn by_blocks(run: Run, part: &[u8]) -> Fed
     requires { ⌜ Going run (now part) ⌝ }
     requires { ⌜ 16 ≤ run .window ⌝ }
@@ -154,6 +184,19 @@ fn by_blocks(run: Run, part: &[u8]) -> Fed
     let mut value = run.value;
     let mut at = run.at;
     while at < part.len() {
+        let next = by_large_blocks(
+            Run {
+                window,
+                base,
+                deadline,
+                value,
+                at,
+            },
+            part,
+        );
+        deadline = next.deadline;
+        value = next.value;
+        at = next.at;
         let end = largest::lesser(deadline, part.len());
         if end < 16 {
             return by_bytes(
@@ -200,4 +243,53 @@ fn by_blocks(run: Run, part: &[u8]) -> Fed
         value,
         at,
     })
+}
+
+// Passes the blocks of 64 bytes that end before the deadline. Where the largest byte rises, its
+// place is looked for once, at the end: until then the deadline counts from the start of its block.
+fn by_large_blocks(run: Run, part: &[u8]) -> Run
+    requires { ⌜ Going run (now part) ⌝ }
+    ensures { λ r. ⌜ Passed run r (now (part .entry)) ⌝ }
+{
+    let window = run.window;
+    let base = run.base;
+    let value = run.value;
+    let mut most = value;
+    let mut from = run.at;
+    let mut limit = largest::lesser(run.deadline, part.len());
+    let mut at = run.at;
+    while at + 64 < limit {
+        let block = largest::of_64(part, at);
+        let start = at;
+        at += 64;
+        if block > most {
+            most = block;
+            from = start;
+            limit = largest::lesser(start + 1 + window, part.len());
+        }
+    }
+    if most == value {
+        return Run {
+            window,
+            base,
+            deadline: run.deadline,
+            value,
+            at,
+        };
+    }
+    let place = largest::first_of(
+        part,
+        Block {
+            from,
+            to: from + 64,
+            most,
+        },
+    );
+    Run {
+        window,
+        base,
+        deadline: place + 1 + window,
+        value: most,
+        at,
+    }
 }

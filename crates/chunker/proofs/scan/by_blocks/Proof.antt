@@ -1,4 +1,4 @@
--- `chunker::scan::by_blocks` meets its contract: each turn passes one block.
+-- `chunker::scan::by_blocks` meets its contract: each turn passes large blocks, then one more block.
 use Prim.Native.Nat.{_+_, _-_, min, _≤_, _<_}
 use native.Mathlib.Omega.{arith}
 use mathlib.Core.Path.{refl, _∙_}
@@ -22,48 +22,72 @@ abbrev μ-loop : tie.MeasureT-loop
 loop-holds : tie.Need-loop-holds Inv-loop μ-loop
 loop-holds c = record { order = c .before .pre .0; gives = refl }
 
+by-large-blocks-requires : tie.Need-by-large-blocks-requires Inv-loop μ-loop
+by-large-blocks-requires c κs = c .before .loop .inv .order
+
+-- after the large blocks the scan is under way as before them
+further : (c : tie.After-by-large-blocks Inv-loop μ-loop)
+    → Underway (c .before .before .before .before .args .part .now)
+    (c .before .before .before .before .args .run .window)
+    (c .before .before .before .before .args .run .base) (c .by-large-blocks .result .deadline)
+    (c .by-large-blocks .result .value) (c .by-large-blocks .result .at)
+    (onward (c .before .before .before .before .args .part .now)
+    (c .before .before .before .before .args .run .window)
+    (c .before .before .before .before .args .run .base)
+    (c .before .before .before .before .args .run .deadline)
+    (c .before .before .before .before .args .run .value)
+    (c .before .before .before .before .args .run .at))
+further c =
+    let p = c .by-large-blocks .ensures in
+    record { order = p .going; gives = p .gives ∙ c .before .before .loop .inv .gives }
+
+-- .. and not at the part's end
+inside : (c : tie.After-by-large-blocks Inv-loop μ-loop)
+    → c .by-large-blocks .result .at < length (c .before .before .before .before .args .part .now)
+inside c = c .by-large-blocks .ensures .inside (c .before .loop-test .taken)
+
 lesser-requires : tie.Need-lesser-requires Inv-loop μ-loop
 lesser-requires c κs = search needs
 
 by-bytes-requires : tie.Need-by-bytes-requires Inv-loop μ-loop
-by-bytes-requires c κs = c .before .before .before .loop .inv .order
+by-bytes-requires c κs = further (c .before .before) .order
 
 returns : tie.Need-returns Inv-loop μ-loop
-returns c = c .by-bytes .ensures ∙ c .before .before .before .before .loop .inv .gives
+returns c = c .by-bytes .ensures ∙ further (c .before .before .before) .gives
 
 sub-if3 : tie.Need-sub-if3 Inv-loop μ-loop
-sub-if3 c = omega arith
+sub-if3 c = omega (arith, inside (c .before .before .before))
 
 by-bytes-requires-2 : tie.Need-by-bytes-requires-2 Inv-loop μ-loop
-by-bytes-requires-2 c κs = c .before .before .before .before .before .loop .inv .order
+by-bytes-requires-2 c κs = further (c .before .before .before .before) .order
 
 returns-2 : tie.Need-returns-2 Inv-loop μ-loop
-returns-2 c = c .by-bytes2 .ensures ∙ c .before .before .before .before .before .before .loop .inv .gives
+returns-2 c = c .by-bytes2 .ensures ∙ further (c .before .before .before .before .before) .gives
 
 -- the end is the deadline, or at least 16 bytes away
 room : (c : tie.Joined2 Inv-loop μ-loop)
-    → min (c .before .before .before .before .loop .deadline) (c .before .before .before .before .loop .at + 16)
+    → min (c .before .before .before .by-large-blocks .result .deadline)
+    (c .before .before .before .by-large-blocks .result .at + 16)
     ≤ c .before .before .lesser .result
 room c = ⊎-elim (λ w. omega arith) (λ w. omega arith) (c .if2 .came)
 
 pick-requires : tie.Need-pick-requires Inv-loop μ-loop
-pick-requires c κs = omega arith
+pick-requires c κs =
+    omega (arith, inside (c .before .before .before), further (c .before .before .before) .order .live)
 
 first-of-requires : tie.Need-first-of-requires Inv-loop μ-loop
-first-of-requires c κs =
-    let p = c .before .pick .ensures in
-    (p .largest, (p .whole, omega arith))
+first-of-requires c κs = let p = c .before .pick .ensures in (p .largest, (p .whole, omega arith))
 
--- the first largest byte lies in the part
-first-small : (c : tie.After-first-of Inv-loop μ-loop) → c .first-of .result < c .before .before .pick .result .to
-first-small c =
+-- the place of the largest byte lies in the block
+place-small : (c : tie.After-first-of Inv-loop μ-loop) → c .first-of .result < c .before .before .pick .result .to
+place-small c =
     first-within _ _ _ _ _ (c .first-of .ensures) (c .before .before .pick .ensures .largest .stands)
 
 add-deadline : tie.Need-add-deadline Inv-loop μ-loop
-add-deadline c = omega (arith, first-small c)
+add-deadline c = omega (arith, place-small c)
 
 add-deadline-2 : tie.Need-add-deadline-2 Inv-loop μ-loop
-add-deadline-2 c = omega (arith, first-small c)
+add-deadline-2 c = omega (arith, place-small c)
 
 loop-less : tie.Need-loop-less Inv-loop μ-loop
 loop-less c = less-left _ _ _ (omega arith) (omega arith)
@@ -71,7 +95,7 @@ loop-less c = less-left _ _ _ (omega arith) (omega arith)
 loop-again : tie.Need-loop-again Inv-loop μ-loop
 loop-again c =
     let joined = c .before .before .before in
-    block-rises (joined .before .before .before .before .loop .inv) _ _ (c .before .before .pick .ensures) (omega arith)
+    block-rises (further (joined .before .before .before)) _ _ (c .before .before .pick .ensures) (omega arith)
     (omega arith) (omega arith) (room joined) (c .first-of .result) _ (c .first-of .ensures) (c .before .if4 .taken)
     (omega arith) (omega arith)
 
@@ -82,7 +106,7 @@ returns-3 : tie.Need-returns-3 Inv-loop μ-loop
 returns-3 c =
     let joined = c .before .before .before .before in
     c .cut .ensures
-    ∙ block-cuts (joined .before .before .before .before .loop .inv) _ _ (c .before .before .before .pick .ensures) (omega arith)
+    ∙ block-cuts (further (joined .before .before .before)) _ _ (c .before .before .before .pick .ensures) (omega arith)
     (omega arith) (omega arith) (room joined) (c .before .before .if4 .left) (c .before .if5 .taken)
 
 loop-less-2 : tie.Need-loop-less-2 Inv-loop μ-loop
@@ -92,7 +116,7 @@ loop-again-2 : tie.Need-loop-again-2 Inv-loop μ-loop
 loop-again-2 c =
     let joined = c .before .before .before in
     let early = c .if5 .left in
-    block-passes (joined .before .before .before .before .loop .inv) _ _ (c .before .before .pick .ensures) (omega arith)
+    block-passes (further (joined .before .before .before)) _ _ (c .before .before .pick .ensures) (omega arith)
     (omega arith) (omega arith) (room joined) (c .before .if4 .left) (omega arith)
 
 passed-requires : tie.Need-passed-requires Inv-loop μ-loop
@@ -110,6 +134,7 @@ by-blocks-spec =
     Inv-loop
     μ-loop
     loop-holds
+    by-large-blocks-requires
     lesser-requires
     by-bytes-requires
     returns

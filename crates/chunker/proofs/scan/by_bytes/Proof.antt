@@ -1,11 +1,10 @@
--- `chunker::scan::by_bytes` meets its contract: each turn passes one byte.
-use Prim.Native.Nat.{_+_, _-_, _≤_}
+-- `chunker::scan::by_bytes` meets its contract: each turn goes to the next larger byte.
+use Prim.Native.Nat.{_-_}
 use native.Mathlib.Omega.{arith}
-use native.Mathlib.Nat.{le-refl}
 use mathlib.Core.Path.{refl, _∙_}
-use lib.ListN.{length, getD}
+use lib.ListN.{length}
 use Rattle.chunker.specs.Run.{onward}
-use Rattle.chunker.proofs.Underway.{Underway, rises-to, passes-to, cuts-to, stops, at-one, count-small, deadline-small}
+use Rattle.chunker.proofs.Underway.{Underway, passes-to, cuts-to, byte-rises, less-left}
 use Rattle.chunker.proofs.scan.by_bytes.Statement.{statement}
 use Rattle.chunker.proofs.scan.by_bytes.Tie as tie
 
@@ -19,8 +18,19 @@ abbrev μ-loop : tie.MeasureT-loop
 loop-holds : tie.Need-loop-holds Inv-loop μ-loop
 loop-holds c = record { order = c .before .pre; gives = refl }
 
-shared-slice-read-byte : tie.Need-shared-slice-read-byte Inv-loop μ-loop
-shared-slice-read-byte c = omega arith
+next-larger-requires : tie.Need-next-larger-requires Inv-loop μ-loop
+next-larger-requires c κs = omega arith
+
+cut-requires : tie.Need-cut-requires Inv-loop μ-loop
+cut-requires c κs = omega arith
+
+returns : tie.Need-returns Inv-loop μ-loop
+returns c =
+    let next = c .before .before .next-larger .ensures in
+    c .cut .ensures ∙ cuts-to (c .before .before .before .before .loop .inv) _ (c .before .if1 .taken) (omega arith) (next .before)
+
+shared-slice-read-value : tie.Need-shared-slice-read-value Inv-loop μ-loop
+shared-slice-read-value c = omega arith
 
 add-at : tie.Need-add-at Inv-loop μ-loop
 add-at c = omega arith
@@ -33,43 +43,18 @@ loop-less c = omega arith
 
 loop-again : tie.Need-loop-again Inv-loop μ-loop
 loop-again c =
-    let part = c .before .before .before .before .before .args .part .now in
-    let at = c .before .before .before .loop .at in
-    rises-to (c .before .before .before .loop .inv) at (at + 1) _ (omega arith) (omega arith) (omega arith) (omega arith)
-    (c .if1 .taken) (omega (arith, c .before .shared-slice-known2 .given at)) (λ q a b. absurd (omega arith))
-    (λ q. at-one (λ x. getD part x 0 ≤ getD part at 0) at q (le-refl _)) (omega arith)
+    let next = c .before .before .next-larger .ensures in
+    let early = c .before .if1 .left in
+    let there = passes-to (c .before .before .before .before .loop .inv) (c .before .before .next-larger .result) (next .from)
+    (omega arith) (omega arith) (next .before) in
+    byte-rises there (omega arith) (next .larger (omega arith))
+    (omega (arith, c .shared-slice-known2 .given (c .before .before .next-larger .result)))
 
-cut-requires : tie.Need-cut-requires Inv-loop μ-loop
-cut-requires c κs = omega arith
-
-returns : tie.Need-returns Inv-loop μ-loop
-returns c =
-    let part = c .before .before .before .before .before .before .before .args .part .now in
-    let at = c .before .before .before .before .before .loop .at in
-    let value = c .before .before .before .before .before .loop .value in
-    c .cut .ensures
-    ∙ cuts-to (c .before .before .before .before .before .loop .inv) (at + 1) (c .before .if2 .taken) (omega arith)
-    (λ q. at-one (λ x. getD part x 0 ≤ value) at q (c .before .before .if1 .left))
-
-loop-less-2 : tie.Need-loop-less-2 Inv-loop μ-loop
-loop-less-2 c = omega arith
-
-loop-again-2 : tie.Need-loop-again-2 Inv-loop μ-loop
-loop-again-2 c =
-    let part = c .before .before .before .before .before .before .args .part .now in
-    let at = c .before .before .before .before .loop .at in
-    let value = c .before .before .before .before .loop .value in
-    let early = c .if2 .left in
-    passes-to (c .before .before .before .before .loop .inv) (at + 1) (omega arith) (omega arith) (omega arith)
-    (λ q. at-one (λ x. getD part x 0 ≤ value) at q (c .before .if1 .left))
-
-passed-requires : tie.Need-passed-requires Inv-loop μ-loop
-passed-requires c κs =
-    let order = c .before .loop .inv .order in
-    omega (arith, count-small order, deadline-small order)
+to-end-requires : tie.Need-to-end-requires Inv-loop μ-loop
+to-end-requires c κs = (c .before .loop .inv .order, c .loop-test .left)
 
 returns-2 : tie.Need-returns-2 Inv-loop μ-loop
-returns-2 c = c .passed .ensures ∙ stops (c .before .before .loop .inv) (c .before .loop-test .left)
+returns-2 c = c .to-end .ensures ∙ c .before .before .loop .inv .gives
 
 pub by-bytes-spec : {M : Type 1} → statement M
 by-bytes-spec =
@@ -78,14 +63,13 @@ by-bytes-spec =
     Inv-loop
     μ-loop
     loop-holds
-    shared-slice-read-byte
+    next-larger-requires
+    cut-requires
+    returns
+    shared-slice-read-value
     add-at
     add-deadline
     loop-less
     loop-again
-    cut-requires
-    returns
-    loop-less-2
-    loop-again-2
-    passed-requires
+    to-end-requires
     returns-2)
