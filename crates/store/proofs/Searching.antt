@@ -1,0 +1,135 @@
+-- A search under way: no entry that was passed holds the chunk, and the entry at hand agrees with it so far.
+use Prim.Native.Nat.{ℕ, suc, _+_, _-_, _≤_, _<_}
+use native.Mathlib.Omega.{arith}
+use native.Mathlib.Nat.{zero-add, sub-zero}
+use native.Mathlib.Numerals.{add-one}
+use mathlib.Core.Path.{_≡_, ap, sym, _∙_}
+use mathlib.Core.List.{List}
+use lib.ListN.{length, getD, length-drop}
+use lib.Seq.{length-take-le, getD-take, getD-drop, ext-getD}
+use borrow.Author.Count.{below-more}
+use Rattle.store.specs.Directory.{offsetAt, lengthAt}
+use Rattle.store.specs.Contents.{chunkAt, chunksFrom, contents, number}
+use Rattle.store.specs.Ready.{EntriesIn}
+use Rattle.store.proofs.Sameness.{same-refl, same-false}
+
+-- the number among n + 1 entries, by the first of them
+module _ (pool directory chunk : List ℕ) (i n : ℕ) where
+  number-here : chunkAt pool directory i ≡ chunk → number (chunksFrom pool directory i (suc n)) chunk ≡ 0
+  unfolding chunksFrom number
+  number-here e = rw (same-refl e)
+
+  number-later : (chunkAt pool directory i ≡ chunk → ⊥)
+      → number (chunksFrom pool directory i (suc n)) chunk ≡ suc (number (chunksFrom pool directory (suc i) n) chunk)
+  unfolding chunksFrom number
+  number-later other = rw (same-false other)
+
+-- an entry whose bytes lie in the pool
+module _ (pool directory : List ℕ) (i : ℕ) (inside : offsetAt directory i + lengthAt directory i ≤ length pool) where
+  entry-length : length (chunkAt pool directory i) ≡ lengthAt directory i
+  entry-length = length-take-le _ _ (omega (arith, length-drop (offsetAt directory i) pool))
+
+  entry-byte : (k : ℕ) → k < lengthAt directory i
+      → getD (chunkAt pool directory i) k 0 ≡ getD pool (offsetAt directory i + k) 0
+  entry-byte k h = rw (getD-take, getD-drop)
+
+-- the entries from entry i on give what was asked
+pub record Searched (pool directory chunk : List ℕ) (count i : ℕ) : Type 0 where
+  pub within : i ≤ count
+  pub gives : i + number (chunksFrom pool directory i (count - i)) chunk ≡ number (contents pool directory count) chunk
+
+-- no entry is passed yet
+pub searched-none : (pool directory chunk : List ℕ) (count : ℕ) → Searched pool directory chunk count 0
+searched-none pool directory chunk count = record { within = omega arith; gives = rw (zero-add, sub-zero) }
+
+module _ {pool directory chunk : List ℕ} {count i : ℕ} (s : Searched pool directory chunk count i) where
+  -- no entry is left
+  pub searched-all : count ≤ i → count ≡ number (contents pool directory count) chunk
+  unfolding chunksFrom number
+  searched-all h =
+      let none : count - i ≡ 0 = omega arith in
+      omega (arith, s .within, rw none at (s .gives))
+
+  module _ (more : i < count) where
+    -- the entry is the first of those that are left
+    first-left : count - i ≡ suc (count - suc i)
+    first-left = omega arith
+
+    -- the entry holds the chunk
+    searched-found : chunkAt pool directory i ≡ chunk → i ≡ number (contents pool directory count) chunk
+    searched-found here =
+        let first = number-here pool directory chunk i (count - suc i) here in
+        omega (arith, rw first-left at (s .gives))
+
+    -- the entry holds another chunk
+    searched-more : (chunkAt pool directory i ≡ chunk → ⊥) → Searched pool directory chunk count (i + 1)
+    searched-more other =
+        let later = number-later pool directory chunk i (count - suc i) other in
+        record { within = omega arith; gives = rw add-one (omega (arith, rw first-left at (s .gives))) }
+
+    -- the entry has another length
+    pub searched-other-length : EntriesIn pool directory count → (lengthAt directory i ≡ length chunk → ⊥)
+        → Searched pool directory chunk count (i + 1)
+    searched-other-length e h =
+        searched-more (λ p. h (sym (entry-length pool directory i (e .inside i more)) ∙ ap length p))
+
+-- entry i starts at `from` and has the chunk's length and its first n bytes
+pub record Compared (pool directory chunk : List ℕ) (count i from n : ℕ) : Type 0 where
+  pub searched : Searched pool directory chunk count i
+  pub more : i < count
+  pub start : from ≡ offsetAt directory i
+  pub long : lengthAt directory i ≡ length chunk
+  pub inside : from + length chunk ≤ length pool
+  pub within : n ≤ length chunk
+  pub agree : (k : ℕ) → k < n → getD pool (from + k) 0 ≡ getD chunk k 0
+
+-- no byte is compared yet
+pub compared-none : {pool directory chunk : List ℕ} {count i from : ℕ} → Searched pool directory chunk count i
+    → EntriesIn pool directory count → i < count → from ≡ offsetAt directory i → lengthAt directory i ≡ length chunk
+    → Compared pool directory chunk count i from 0
+compared-none {i} s e more start long =
+    record {
+      searched = s;
+      more = more;
+      start = start;
+      long = long;
+      inside = omega (arith, e .inside i more);
+      within = omega arith;
+      agree = λ k h. absurd (omega arith);
+    }
+
+module _ {pool directory chunk : List ℕ} {count i from n : ℕ} (c : Compared pool directory chunk count i from n) where
+  -- the next byte agrees too
+  pub compared-more : n < length chunk → getD pool (from + n) 0 ≡ getD chunk n 0
+      → Compared pool directory chunk count i from (n + 1)
+  compared-more h e =
+      record {
+        searched = c .searched;
+        more = c .more;
+        start = c .start;
+        long = c .long;
+        inside = c .inside;
+        within = omega arith;
+        agree = below-more _ n (c .agree) e;
+      }
+
+  -- the entry's bytes lie in the pool
+  lies : offsetAt directory i + lengthAt directory i ≤ length pool
+  lies = omega arith
+
+  -- a byte of the entry's chunk stands in the pool
+  byte : (k : ℕ) → k < length chunk → getD (chunkAt pool directory i) k 0 ≡ getD pool (from + k) 0
+  byte k h = rw (c .start) (entry-byte pool directory i lies k (omega arith))
+
+  -- the next byte does not agree: the entry is passed
+  pub compared-other : n < length chunk → (getD pool (from + n) 0 ≡ getD chunk n 0 → ⊥)
+      → Searched pool directory chunk count (i + 1)
+  compared-other h differs =
+      searched-more (c .searched) (c .more) (λ p. differs (sym (byte n h) ∙ ap (λ xs. getD xs n 0) p))
+
+  -- no byte is left: the entry holds the chunk
+  pub compared-all : length chunk ≤ n → i ≡ number (contents pool directory count) chunk
+  compared-all h =
+      let size = entry-length pool directory i lies in
+      searched-found (c .searched) (c .more)
+      (ext-getD 0 _ _ (size ∙ c .long) (λ k l. byte k (omega arith) ∙ c .agree k (omega arith)))

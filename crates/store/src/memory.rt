@@ -1,0 +1,76 @@
+// Reading and writing pool and directory.
+ghost use mathlib.Core.Path.{_≡_};
+ghost use Prim.Native.Nat.{ℕ, _+_, _*_, _≤_, _<_};
+ghost use lib.ListN.{length, set};
+ghost use Rattle.store.specs.Directory.{offsetAt, lengthAt};
+ghost use Rattle.store.specs.Contents.{contents, number};
+ghost use Rattle.store.specs.Filling.{written};
+ghost use Rattle.store.specs.Ready.{EntriesIn};
+use crate::ChunkNumber;
+use crate::PoolOffset;
+
+// Where an entry's bytes start in the pool.
+pub fn offset_of(directory: &[u32], entry: usize) -> usize
+    requires { ⌜ entry * 2 + 1 < length (now directory) ⌝ }
+    ensures { λ r. ⌜ r ≡ offsetAt (now (directory .entry)) entry ⌝ }
+{
+    directory[entry * 2] as usize
+}
+
+// How many bytes an entry has.
+pub fn length_of(directory: &[u32], entry: usize) -> usize
+    requires { ⌜ entry * 2 + 1 < length (now directory) ⌝ }
+    ensures { λ r. ⌜ r ≡ lengthAt (now (directory .entry)) entry ⌝ }
+{
+    directory[entry * 2 + 1] as usize
+}
+
+// The lowest number of an equal chunk, or the next unused number. A candidate has the same length,
+// and is dropped at its first unequal byte.
+pub fn search(pool: &[u8], directory: &[u32], chunks: ChunkNumber, chunk: &[u8]) -> ChunkNumber
+    requires { ⌜ EntriesIn (now pool) (now directory) (chunks .0) ⌝ }
+    ensures { λ r. ⌜ r .0 ≡ number (contents (now (pool .entry)) (now (directory .entry)) (chunks .0)) (now (chunk .entry)) ⌝ }
+{
+    let count = chunks.0;
+    let mut candidate = 0;
+    'entries: while candidate < count {
+        let entry = candidate as usize;
+        candidate += 1;
+        if length_of(directory, entry) != chunk.len() {
+            continue 'entries;
+        }
+        let from = offset_of(directory, entry);
+        let mut i = 0;
+        while i < chunk.len() {
+            if pool[from + i] != chunk[i] {
+                continue 'entries;
+            }
+            i += 1;
+        }
+        return ChunkNumber(candidate - 1);
+    }
+    chunks
+}
+
+// Writes a chunk into the pool.
+pub fn copy(pool: &mut [u8], at: PoolOffset, chunk: &[u8])
+    requires { ⌜ at .0 + length (now chunk) ≤ length (now pool) ⌝ }
+    ensures { λ _. ⌜ now (pool .exit) ≡ written (now (pool .entry)) (at .0) (now (chunk .entry)) ⌝ }
+{
+    let from = at.0 as usize;
+    let mut i = 0;
+    while i < chunk.len() {
+        pool[from + i] = chunk[i];
+        i += 1;
+    }
+}
+
+// Enters a chunk's place with the next number.
+pub fn enter(directory: &mut [u32], number: ChunkNumber, at: PoolOffset, size: u32)
+    requires { ⌜ number .0 * 2 + 1 < length (now directory) ⌝ }
+    ensures { λ _. ⌜ now (directory .exit) ≡ set (set (now (directory .entry)) (number .0 * 2) (at .0)) (number .0 * 2 + 1) size ⌝ }
+{
+    let entry = number.0 as usize * 2;
+    directory[entry] = at.0;
+    directory[entry + 1] = size;
+}
