@@ -23,26 +23,24 @@ use Rattle.store.proofs.Entries.{fits-facts}
 use Rattle.store.proofs.Writing.{alike-fits, alike-contents}
 use Rattle.store.proofs.ChunksTaken.{chunks-allowed, total-chunks, took, filled-alike}
 
--- the chunks that a store holds under a head
-abbrev pub holding : Head → List ℕ → List ℕ → List (List ℕ)
-holding head pool directory = contents pool directory (head .chunks .0)
-
 -- an accepted admission adds the job's chunks
 pub record Added (head : Head) (pool directory job : List ℕ) (a : Admission) : Type 0 where
   pub allowed : windowAllowed (head .window) ≡ true
   pub window : a .answer .head .window ≡ head .window
   pub fitting : fits (a .answer .head) (a .pool) (a .directory) ≡ true
-  pub held : holding (a .answer .head) (a .pool) (a .directory) ≡ grown (holding head pool directory) (chunks (head .window) job)
+  pub held : contents (a .pool) (a .directory) (a .answer .head .chunks .0)
+      ≡ grown (contents pool directory (head .chunks .0)) (chunks (head .window) job)
   pub recipe : recipeOf a
-      ≡ map (number (grown (holding head pool directory) (chunks (head .window) job))) (chunks (head .window) job)
-  pub new : a .answer .«new_bytes» ≡ gained (holding head pool directory) (chunks (head .window) job)
+      ≡ map (number (grown (contents pool directory (head .chunks .0)) (chunks (head .window) job)))
+      (chunks (head .window) job)
+  pub new : a .answer .«new_bytes» ≡ gained (contents pool directory (head .chunks .0)) (chunks (head .window) job)
   pub all : a .answer .«new_bytes» + a .answer .«repeated_bytes» ≡ length job
 
 -- a refused one adds nothing
 pub record Kept (head : Head) (pool directory : List ℕ) (a : Admission) : Type 0 where
   pub sameHead : a .answer .head ≡ head
   pub fitting : fits head (a .pool) (a .directory) ≡ true
-  pub held : holding head (a .pool) (a .directory) ≡ holding head pool directory
+  pub held : contents (a .pool) (a .directory) (head .chunks .0) ≡ contents pool directory (head .chunks .0)
 
 -- where none of the grounds 1 and 3 to 5 holds, the window is allowed
 ground-window : (head : Head) (pool directory recipe job : List ℕ)

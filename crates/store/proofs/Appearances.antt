@@ -10,7 +10,7 @@ use lib.ListN.{length, getD, length-append, List·getD-append}
 use lib.Seq.{getD-at}
 use Rattle.chunker.proofs.CutPlaces.{total}
 use Rattle.store.specs.Contents.{same, number}
-use Rattle.store.specs.History.{has, firstAppearances}
+use Rattle.store.specs.History.{has, firstAppearances, Distinct}
 use Rattle.store.proofs.Growth.{gain, grown, gained}
 use Rattle.store.proofs.Numbering.{same-equal, same-itself, number-append, number-added}
 
@@ -153,10 +153,6 @@ grown-more held (c ∷ cs) =
     let first = gain-more held c in
     let later = grown-more (gain held c) cs in
     (first .0 ++ later .0, later .1 ∙ ap (λ h. h ++ later .0) (first .1) ∙ append-assoc held (first .0) (later .0))
-
--- no two of the chunks are equal: each is found at its own place
-abbrev pub Distinct : List (List ℕ) → Type 0
-Distinct held = (p : ℕ) → p < length held → number held (getD held p []) ≡ p
 
 -- each of the chunks is among them
 pub place-among : (held : List (List ℕ)) (p : ℕ) → p < length held → has held (getD held p []) ≡ true

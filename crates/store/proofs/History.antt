@@ -12,16 +12,13 @@ use Rattle.chunker.specs.Scanner.{windowAllowed}
 use Rattle.chunker.specs.Chunks.{chunks}
 use Rattle.store.specs.Directory.{fits, laidOut}
 use Rattle.store.specs.Contents.{chunksFrom, number}
-use Rattle.store.specs.History.{Event, admission, State, start, leaves, before, accepts, chunksOf, AcceptedAt}
-use Rattle.store.specs.History.{outcomeAt, recipeOf, chunksBefore, has, firstAppearances, AllBytes}
+use Rattle.store.specs.History.{Event, admission, State, start, holds, leaves, before, accepts, chunksOf}
+use Rattle.store.specs.History.{AcceptedAt, outcomeAt, recipeOf, chunksBefore, AllBytes}
+use Rattle.store.specs.History.{FirstAppearances, StoreGrows}
 use Rattle.store.proofs.Growth.{grown, gained}
-use Rattle.store.proofs.Admissions.{holding, adds, keeps}
-use Rattle.store.proofs.Appearances.{Among, Distinct, gained-first, grown-append, grown-has, grown-keeps, grown-more}
+use Rattle.store.proofs.Admissions.{adds, keeps}
+use Rattle.store.proofs.Appearances.{Among, gained-first, grown-append, grown-has, grown-keeps, grown-more}
 use Rattle.store.proofs.Appearances.{grown-alike, grown-distinct, number-grown, numbers-grown}
-
--- what a store holds in a state
-abbrev pub holds : State → List (List ℕ)
-holds s = holding (s .head) (s .pool) (s .directory)
 
 -- the head fits pool and directory
 abbrev pub Fitting : State → Type 0
@@ -174,22 +171,6 @@ pub record Standing (w : ℕ) (t : State) (cs : List (List ℕ)) : Type 0 where
   pub fitting : Fitting t
   pub window : t .head .window ≡ w
   pub held : holds t ≡ grown [] cs
-
--- the counts of the accepted admission of a place
-pub record FirstAppearances (w : ℕ) (s : State) (events : List Event) (i : ℕ) (job recipe : List ℕ) : Type 0 where
-  pub new : outcomeAt s events i job recipe .answer .«new_bytes»
-      ≡ firstAppearances (chunksBefore s events i) (chunks w job)
-  pub all :
-      outcomeAt s events i job recipe .answer .«new_bytes» + outcomeAt s events i job recipe .answer .«repeated_bytes»
-      ≡ length job
-
--- from place i of a list to place j the store grows at its end only and comes to hold no two equal chunks, so a chunk that
--- it holds keeps its number
-pub record StoreGrows (s : State) (events : List Event) (i j : ℕ) : Type 0 where
-  pub atEnd : (more : List (List ℕ)) × (holds (before s events j) ≡ holds (before s events i) ++ more)
-  pub distinct : Distinct (holds (before s events j))
-  pub sameNumber : (c : List ℕ) → has (holds (before s events i)) c ≡ true
-      → number (holds (before s events j)) c ≡ number (holds (before s events i)) c
 
 module _ (w : ℕ) (pool directory : List ℕ) (events : List Event) (b : AllBytes events) where
   -- what stands before each place

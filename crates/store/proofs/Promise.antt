@@ -15,11 +15,11 @@ use Rattle.chunker.proofs.CutPlaces.{total, total-cut}
 use Rattle.chunker.proofs.KeptMaximum.{kept-cut}
 use Rattle.chunker.proofs.SharedEnding.{chunks-append, lines-up}
 use Rattle.store.specs.Contents.{number}
-use Rattle.store.specs.History.{Event, State, start, before, AcceptedAt, outcomeAt, recipeOf, AllBytes}
+use Rattle.store.specs.History.{Event, State, start, holds, before, AcceptedAt, outcomeAt, recipeOf, AllBytes}
 use Rattle.store.specs.Promise.{Promised, numbersAfter}
 use Rattle.store.proofs.Growth.{gained}
 use Rattle.store.proofs.Appearances.{Among, among-parts, gained-between}
-use Rattle.store.proofs.History.{holds, Fitting, start-fits, bytes-at, adds-at, recipe-stays, chunks-stay}
+use Rattle.store.proofs.History.{Fitting, start-fits, bytes-at, adds-at, recipe-stays, chunks-stay}
 
 -- the numbers of the chunks that start after a place
 pub numbers-after : (number : List ℕ → ℕ) (n : ℕ) (cs : List (List ℕ))

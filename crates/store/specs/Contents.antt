@@ -1,9 +1,9 @@
 -- The chunks that a store holds, and the number that a chunk has or gets.
 use Prim.Native.Nat.{ℕ, zero, suc}
 use mathlib.Core.Bool.{Bool, true, false, cond, _&&_}
-use mathlib.Core.List.{List, [], _∷_, _++_}
+use mathlib.Core.List.{List, [], _∷_}
 use lib.Dec.{eqb}
-use lib.ListN.{take, drop, length}
+use lib.ListN.{take, drop}
 use Rattle.store.specs.Directory.{offsetAt, lengthAt}
 
 -- the piece's own stretch of the pool

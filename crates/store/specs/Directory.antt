@@ -1,6 +1,6 @@
 -- The directory: "two an entry: offset in the pool from 0, and length", and the limits of lent memory.
 use Prim.Native.Nat.{ℕ, zero, suc, _+_, _*_, _/_, _%_}
-use mathlib.Core.Bool.{Bool, true, _&&_}
+use mathlib.Core.Bool.{Bool, _&&_}
 use mathlib.Core.List.{List}
 use lib.Dec.{leb, eqb}
 use lib.ListN.{length, getD}
@@ -20,8 +20,8 @@ lengthAt directory i = getD directory (i * stride + 1) 0
 abbrev pub entries : List ℕ → ℕ
 entries directory = length directory / stride
 
--- "Entry 0 starts at 0, each next one where the last ended, and the last ends at filled"; "Lengths are 1 to 256 × w + 1":
--- the n entries from entry i on, of which the first starts at `from`
+-- "Entry 0 starts at 0, each next one where the last ended, and the last ends at filled"; "Lengths are 1 to
+-- 256 × w + 1": the n entries from entry i on, of which the first starts at `from`
 unfoldable pub laidOut : ℕ → List ℕ → ℕ → ℕ → ℕ → ℕ → Bool
 laidOut w directory i from filled zero = eqb from filled
 laidOut w directory i from filled (suc n) =
@@ -34,7 +34,8 @@ fits head pool directory =
     leb (head .chunks .0) (entries directory) && leb (head .filled .0) (length pool)
     && laidOut (head .window) directory 0 0 (head .filled .0) (head .chunks .0)
 
--- "The pool has over 67,108,864 bytes, the directory over 131,070 numbers or an odd count": ground 4 does not hold of these
+-- "The pool has over 67,108,864 bytes, the directory over 131,070 numbers or an odd count": ground 4 does not hold of
+-- these
 unfoldable pub storeAllowed : List ℕ → List ℕ → Bool
 storeAllowed pool directory =
     leb (length pool) 67108864 && leb (length directory) 131070 && eqb (length directory % stride) 0

@@ -1,5 +1,5 @@
 -- An admission under way, chunk by chunk: what it has counted, and memory as it stands.
-use Prim.Native.Nat.{ℕ, suc, _+_, _*_, _-_}
+use Prim.Native.Nat.{ℕ, _+_, _*_, _-_}
 use mathlib.Core.Bool.{cond}
 use mathlib.Core.List.{List, [], _∷_, _++_}
 use lib.Dec.{leb, ltb}
@@ -69,7 +69,8 @@ stored f c =
         «repeated_bytes» = p .«repeated_bytes»;
       };
       pool = written (f .pool) (p .filled .0) c;
-      directory = set (set (f .directory) (p .chunks .0 * stride) (p .filled .0)) (p .chunks .0 * stride + 1) (length c);
+      directory = set (set (f .directory) (p .chunks .0 * stride) (p .filled .0)) (p .chunks .0 * stride + 1)
+          (length c);
       recipe = set (f .recipe) (p .«recipe_length») (p .chunks .0);
     }
 

@@ -5,7 +5,8 @@ use mathlib.Core.List.{List, []}
 use lib.Dec.{ltb}
 use Rattle.refusal.specs.Number.{accepted}
 use Rattle.refusal.specs.declared.Refusal.{Refusal}
-use Rattle.refusal.specs.declared.Refusal.the-variants.{Accepted, Window, MemoryLimit, Head as HeadMisfit, ChunkNumber as NoChunk}
+use Rattle.refusal.specs.declared.Refusal.the-variants.{Accepted, Window, MemoryLimit, Head as HeadMisfit}
+use Rattle.refusal.specs.declared.Refusal.the-variants.{ChunkNumber as NoChunk}
 use Rattle.chunker.specs.Scanner.{windowAllowed}
 use Rattle.store.specs.declared.Head.{Head}
 use Rattle.store.specs.declared.ChunkNumber.{ChunkNumber}
