@@ -31,7 +31,8 @@ headOf w f = record { window = w; chunks = f .progress .chunks; filled = f .prog
 abbrev pub heldBy : Filling → List (List ℕ)
 heldBy f = contents (f .pool) (f .directory) (f .progress .chunks .0)
 
--- a chunk is refused, or there is room in the recipe and the store has it, or room for it everywhere and the store lacks it
+-- a chunk is refused, or there is room in the recipe and the store has it, or there is room for it everywhere and the
+-- store lacks it
 pub data Chunked (f : Filling) (c : List ℕ) : Refusal → Filling → Type 0 where
   refuses : {ground : Refusal} {g : Filling} → accepted ground ≡ false → Chunked f c ground g
   repeats : f .progress .«recipe_length» < length (f .recipe) → has (heldBy f) c ≡ true
@@ -50,7 +51,8 @@ module _ (f : Filling) (c : List ℕ) where
       → ltb (numberIn f c) (f .progress .chunks .0) ≡ found
       → leb (entries (f .directory)) (f .progress .chunks .0) ≡ unlisted
       → ltb (length (f .pool) - f .progress .filled .0) (length c) ≡ long
-      → Chunked f c (cond full RecipeFull (cond found Accepted (cond unlisted DirectoryFull (cond long PoolFull Accepted))))
+      → Chunked f c
+      (cond full RecipeFull (cond found Accepted (cond unlisted DirectoryFull (cond long PoolFull Accepted))))
       (cond found (repeated f c) (stored f c))
   by-tests true found unlisted long p q r s = refuses refl
   by-tests false true unlisted long p q r s =

@@ -3,7 +3,7 @@ use Prim.Native.Nat.{ℕ, _+_, _*_, _≤_}
 use native.Mathlib.Omega.{arith}
 use mathlib.Core.Path.{_≡_, refl, ap, sym, _∙_}
 use mathlib.Core.Logic.{⊎-elim}
-use mathlib.Core.Bool.{true, false, cond, false≢true}
+use mathlib.Core.Bool.{true, cond, false≢true}
 use mathlib.Core.List.{List, [], _∷_, _++_, map, append-assoc, append-nil, List·Memᴰ, List·Memᴰ·head, List·Memᴰ·tail}
 use mathlib.Core.List.{List·Memᴰ·not-nil, List·Memᴰ·append-cases, List·Memᴰ·eq-of-singleton}
 use lib.ListN.{length, take, length-append}
@@ -19,8 +19,7 @@ use Rattle.store.specs.Directory.{fits}
 use Rattle.store.specs.Contents.{number}
 use Rattle.store.specs.Filling.{Filling, Ended, chunkGround, taken, filled}
 use Rattle.store.specs.History.{has}
-use Rattle.store.proofs.Growth.{gain, grown, gained}
-use Rattle.store.proofs.Numbering.{gain-has, number-stable}
+use Rattle.store.proofs.Growth.{gain, grown, gained, first-among, grown-has, number-grown}
 use Rattle.store.proofs.Writing.{Alike, alike-itself, alike-onwards, writing-past}
 use Rattle.store.proofs.ChunkTaken.{headOf, heldBy, Chunked, refuses, repeats, stores, chunked}
 use Rattle.store.proofs.ChunkTaken.{Took, took-repeated, took-stored}
@@ -57,8 +56,8 @@ took-both : (w : ℕ) (f g h : Filling) (c : List ℕ) (cs : List (List ℕ)) �
 unfolding grown gained
 took-both w f g h c cs a b =
     let here : heldBy g ≡ gain (heldBy f) c = a .held in
-    let there : has (heldBy g) c ≡ true = rw here (gain-has (heldBy f) c) in
-    let n : number (heldBy h) c ≡ number (heldBy g) c = rw (b .held) (number-stable (heldBy g) cs c there) in
+    let there : has (heldBy g) c ≡ true = rw here (grown-has (heldBy f) (c ∷ []) c (first-among c [])) in
+    let n : number (heldBy h) c ≡ number (heldBy g) c = rw (b .held) (number-grown (heldBy g) cs c there) in
     let before = take (f .progress .«recipe_length») (f .recipe) in
     let later = map (number (heldBy h)) cs in
     let gains : gained (heldBy g) cs ≡ gained (gain (heldBy f) c) cs = ap (λ l. gained l cs) here in
@@ -117,7 +116,8 @@ module _ (n top : ℕ) (f : Filling) (c : List ℕ) (cs : List (List ℕ)) where
       → (ground : Refusal) (g : Filling) → Chunked f c ground g
       → (n ≤ g .progress .chunks .0 → top ≤ g .progress .filled .0 → g .progress .filled .0 ≤ length (g .pool)
       → Alike n top (g .pool) (g .directory) (filled g cs .filling .pool) (filled g cs .filling .directory))
-      → Alike n top (f .pool) (f .directory) (after f cs ground g .filling .pool) (after f cs ground g .filling .directory)
+      → Alike n top (f .pool) (f .directory)
+      (after f cs ground g .filling .pool) (after f cs ground g .filling .directory)
   alike-step a b l ground g (refuses e) ih = rw e (alike-itself n top (f .pool) (f .directory))
   alike-step a b l ground g (repeats _ _) ih = ih a b l
   alike-step a b l ground g (stores _ _ _ space) ih =

@@ -32,7 +32,8 @@ module _ (w : ℕ) (directory : List ℕ) where
       }
 
   -- and back
-  first-back : (i from filled n : ℕ) → First w directory i from filled n → laidOut w directory i from filled (suc n) ≡ true
+  first-back : (i from filled n : ℕ) → First w directory i from filled n
+      → laidOut w directory i from filled (suc n) ≡ true
   unfolding laidOut
   first-back i from filled n f =
       rw (eq-eqb _ _ (f .starts), le-leb _ _ (f .some), le-leb _ _ (f .bounded)) (f .rest)
@@ -108,7 +109,8 @@ laid-entry w directory i from filled (suc n) zero q e l h =
     let f = first w directory i from filled n h in
     let end = laid-end w directory (suc i) (from + lengthAt directory i) filled n (f .rest) in
     let e′ : i ≡ q = omega arith in
-    let here : Entry w directory filled i = record { some = f .some; bounded = f .bounded; within = rw (f .starts) end } in
+    let here : Entry w directory filled i =
+    record { some = f .some; bounded = f .bounded; within = rw (f .starts) end } in
     rw e′ at here
 laid-entry w directory i from filled (suc n) (suc k) q e l h =
     laid-entry w directory (suc i) (from + lengthAt directory i) filled n k q (omega arith) (omega arith)

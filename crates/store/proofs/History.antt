@@ -15,10 +15,10 @@ use Rattle.store.specs.Contents.{chunksFrom, number}
 use Rattle.store.specs.History.{Event, admission, State, start, holds, leaves, before, accepts, chunksOf}
 use Rattle.store.specs.History.{AcceptedAt, outcomeAt, recipeOf, chunksBefore, AllBytes}
 use Rattle.store.specs.History.{FirstAppearances, StoreGrows}
-use Rattle.store.proofs.Growth.{grown, gained}
+use Rattle.store.proofs.Growth.{grown, gained, Among, grown-keeps, grown-has, grown-append, grown-more}
+use Rattle.store.proofs.Growth.{number-grown, numbers-grown, grown-distinct}
+use Rattle.store.proofs.Appearances.{grown-alike, gained-first}
 use Rattle.store.proofs.Admissions.{adds, keeps}
-use Rattle.store.proofs.Appearances.{Among, gained-first, grown-append, grown-has, grown-keeps, grown-more}
-use Rattle.store.proofs.Appearances.{grown-alike, grown-distinct, number-grown, numbers-grown}
 
 -- the head fits pool and directory
 abbrev pub Fitting : State → Type 0
@@ -128,7 +128,8 @@ unfolding leaves
 adds-at s f events b i job recipe a =
     let t = before s events i in
     let g = grows s f events b i in
-    let d = adds (t .head) (t .pool) (t .directory) recipe job (g .fitting) (bytes-at events b i job recipe (a .stands)) (a .accepted) in
+    let bytes = bytes-at events b i job recipe (a .stands) in
+    let d = adds (t .head) (t .pool) (t .directory) recipe job (g .fitting) bytes (a .accepted) in
     let left = before-next s events i (admission job recipe) (a .stands) in
     let held = rw (g .window) at (d .held) in
     record {

@@ -16,7 +16,8 @@ pub record Tested (w : ℕ) (directory : List ℕ) (filled count from entry : �
   pub small : from ≤ entry * 4294967295
   pub gives : laidOut w directory entry from filled (count - entry) ≡ laidOut w directory 0 0 filled count
 
-module _ {w : ℕ} {directory : List ℕ} {filled count from entry : ℕ} (t : Tested w directory filled count from entry) where
+module _ {w : ℕ} {directory : List ℕ} {filled count from entry : ℕ}
+    (t : Tested w directory filled count from entry) where
   -- with no entry left, it is whether the last one ended at `filled`
   pub none-left : count ≤ entry → laidOut w directory 0 0 filled count ≡ eqb from filled
   unfolding laidOut

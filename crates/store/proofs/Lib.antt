@@ -1,10 +1,11 @@
 pub mod Sameness
+pub mod Numbering
 pub mod Growth
 pub mod Entries
-pub mod Numbering
 pub mod Writing
 pub mod ChunkTaken
 pub mod ChunksTaken
+pub mod Outcomes
 pub mod Admissions
 pub mod Appearances
 pub mod History

@@ -17,8 +17,7 @@ use Rattle.chunker.proofs.SharedEnding.{chunks-append, lines-up}
 use Rattle.store.specs.Contents.{number}
 use Rattle.store.specs.History.{Event, State, start, holds, before, AcceptedAt, outcomeAt, recipeOf, AllBytes}
 use Rattle.store.specs.Promise.{Promised, numbersAfter}
-use Rattle.store.proofs.Growth.{gained}
-use Rattle.store.proofs.Appearances.{Among, among-parts, gained-between}
+use Rattle.store.proofs.Growth.{gained, Among, among-parts, gained-between}
 use Rattle.store.proofs.History.{Fitting, start-fits, bytes-at, adds-at, recipe-stays, chunks-stay}
 
 -- the numbers of the chunks that start after a place
@@ -65,8 +64,9 @@ module _ (w : ℕ) (b : List ℕ) where
       omega (arith, last-size w h g b bytes, length-append m (take (k + w) e), length-take (k + w) e)
 
   -- a store that holds the chunks of one job gains from a job with the same beginning and ending at most so many bytes
-  pub gained-revision : 1 ≤ w → w ≤ 1024 → Bytes b → (r m e : List ℕ) (k : ℕ) → KeptMaximum w e k → (held : List (List ℕ))
-      → Among (chunks w (b ++ (r ++ e))) held → gained held (chunks w (b ++ (m ++ e))) ≤ length m + k + 257 * w
+  pub gained-revision : 1 ≤ w → w ≤ 1024 → Bytes b → (r m e : List ℕ) (k : ℕ) → KeptMaximum w e k
+      → (held : List (List ℕ)) → Among (chunks w (b ++ (r ++ e))) held
+      → gained held (chunks w (b ++ (m ++ e))) ≤ length m + k + 257 * w
   gained-revision h g bytes r m e k kept held old =
       let firsts = cutChunks (fresh w) [] b in
       let middle = cutsAfter (r ++ take (k + w) e) in

@@ -1,40 +1,32 @@
 -- The test of two chunks: it is true where they are equal, and false where they are not.
 use Prim.Native.Nat.{ℕ}
-use mathlib.Core.Path.{_≡_, refl}
-use mathlib.Core.Bool.{Bool, true, false, and-eq-true-iff}
+use mathlib.Core.Path.{_≡_, refl, ap₂}
+use mathlib.Core.Bool.{true, false, and-eq-true-iff, not-eq-not}
 use mathlib.Core.List.{List, [], _∷_}
 use lib.Dec.{eqb}
 use borrow.Author.Tests.{eqb-true, eq-eqb}
 use Rattle.store.specs.Contents.{same}
 
--- the test goes byte by byte
-by-bytes : (xs ys : List ℕ) → same xs ys ≡ true → xs ≡ ys
+-- the test passes only equal chunks
+pub same-equal : (xs ys : List ℕ) → same xs ys ≡ true → xs ≡ ys
 unfolding same
-by-bytes [] [] e = refl
-by-bytes [] (c ∷ cs) e = cc
-by-bytes (b ∷ bs) [] e = cc
-by-bytes (b ∷ bs) (c ∷ cs) e =
-    let k = and-eq-true-iff (eqb b c) (same bs cs) .0 e in
-    let first : b ≡ c = eqb-true b c (k .0) in
-    let rest : bs ≡ cs = by-bytes bs cs (k .1) in
-    cc
+same-equal [] [] h = refl
+same-equal [] (y ∷ ys) h = cc
+same-equal (x ∷ xs) [] h = cc
+same-equal (x ∷ xs) (y ∷ ys) h =
+    let k = and-eq-true-iff (eqb x y) (same xs ys) .0 h in
+    ap₂ _∷_ (eqb-true x y (k .0)) (same-equal xs ys (k .1))
 
-pub same-true : {xs ys : List ℕ} → same xs ys ≡ true → xs ≡ ys
-same-true {xs} {ys} e = by-bytes xs ys e
-
--- a chunk passes the test with itself
-same-self : (xs : List ℕ) → same xs xs ≡ true
+-- a chunk passes it with itself
+pub same-itself : (xs : List ℕ) → same xs xs ≡ true
 unfolding same
-same-self [] = refl
-same-self (b ∷ bs) = rw (eq-eqb b b refl, same-self bs)
+same-itself [] = refl
+same-itself (x ∷ xs) = rw (eq-eqb x x refl) (same-itself xs)
 
-pub same-refl : {xs ys : List ℕ} → xs ≡ ys → same xs ys ≡ true
-same-refl {xs} e = rw (← e) (same-self xs)
+-- so it passes all equal chunks
+pub equal-same : (xs ys : List ℕ) → xs ≡ ys → same xs ys ≡ true
+equal-same xs ys e = rw e (same-itself ys)
 
--- a test that is not true is false
-by-test : (t : Bool) → (t ≡ true → ⊥) → t ≡ false
-by-test true h = absurd (h refl)
-by-test false h = refl
-
-pub same-false : {xs ys : List ℕ} → (xs ≡ ys → ⊥) → same xs ys ≡ false
-same-false {xs} {ys} h = by-test (same xs ys) (λ e. h (same-true e))
+-- and fails others
+pub same-other : (xs ys : List ℕ) → (xs ≡ ys → ⊥) → same xs ys ≡ false
+same-other xs ys other = not-eq-not {a = same xs ys} {b = false} .0 (λ e. other (same-equal xs ys e))

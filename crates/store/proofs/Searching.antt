@@ -11,18 +11,18 @@ use borrow.Author.Count.{below-more}
 use Rattle.store.specs.Directory.{offsetAt, lengthAt}
 use Rattle.store.specs.Contents.{chunkAt, chunksFrom, contents, number}
 use Rattle.store.specs.Ready.{EntriesIn}
-use Rattle.store.proofs.Sameness.{same-refl, same-false}
+use Rattle.store.proofs.Sameness.{equal-same, same-other}
 
 -- the number among n + 1 entries, by the first of them
 module _ (pool directory chunk : List ℕ) (i n : ℕ) where
   number-here : chunkAt pool directory i ≡ chunk → number (chunksFrom pool directory i (suc n)) chunk ≡ 0
   unfolding chunksFrom number
-  number-here e = rw (same-refl e)
+  number-here e = rw (equal-same (chunkAt pool directory i) chunk e)
 
   number-later : (chunkAt pool directory i ≡ chunk → ⊥)
       → number (chunksFrom pool directory i (suc n)) chunk ≡ suc (number (chunksFrom pool directory (suc i) n) chunk)
   unfolding chunksFrom number
-  number-later other = rw (same-false other)
+  number-later other = rw (same-other (chunkAt pool directory i) chunk other)
 
 -- an entry whose bytes lie in the pool
 module _ (pool directory : List ℕ) (i : ℕ) (inside : offsetAt directory i + lengthAt directory i ≤ length pool) where

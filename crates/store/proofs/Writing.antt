@@ -67,7 +67,8 @@ contents-length pool directory i zero = refl
 contents-length pool directory i (suc n) = ap suc (contents-length pool directory (suc i) n)
 
 module _ (head : Head) (pool directory : List ℕ) (fitting : fits head pool directory ≡ true) where
-  module _ (pool′ directory′ : List ℕ) (k : Alike (head .chunks .0) (head .filled .0) pool directory pool′ directory′) where
+  module _ (pool′ directory′ : List ℕ)
+      (k : Alike (head .chunks .0) (head .filled .0) pool directory pool′ directory′) where
     -- the numbers of the first entries
     number-same : (i : ℕ) → i < head .chunks .0 * 2 → getD directory′ i 0 ≡ getD directory i 0
     number-same i l =
@@ -99,7 +100,8 @@ module _ (head : Head) (pool directory : List ℕ) (fitting : fits head pool dir
 
     -- and holds the same chunks
     pub alike-contents : contents pool′ directory′ (head .chunks .0) ≡ contents pool directory (head .chunks .0)
-    alike-contents = chunks-same pool directory pool′ directory′ 0 (head .chunks .0) (λ q a b. chunk-same q (omega arith))
+    alike-contents =
+        chunks-same pool directory pool′ directory′ 0 (head .chunks .0) (λ q a b. chunk-same q (omega arith))
 
 -- the head of a store with one chunk more
 abbrev pub headAfter : Head → ℕ → Head
@@ -123,7 +125,8 @@ directoryAfter head directory c = entered directory (head .chunks .0) (head .fil
 
 -- writing at or past the end of what a store holds
 pub writing-past : (n top : ℕ) (pool directory : List ℕ) (m end : ℕ) (c : List ℕ) → n ≤ m → top ≤ end
-    → end + length c ≤ length pool → Alike n top pool directory (written pool end c) (entered directory m end (length c))
+    → end + length c ≤ length pool
+    → Alike n top pool directory (written pool end c) (entered directory m end (length c))
 writing-past n top pool directory m end c a b l =
     record {
       poolLength = simp (length-append, length-take, length-drop) (omega arith);

@@ -5,7 +5,7 @@ use borrow.Author.Tests.{not-true, not-false}
 use Rattle.refusal.specs.Number.{accepted}
 use Rattle.refusal.proofs.NoGround.{no-ground}
 use Rattle.store.specs.Admission.{refused}
-use Rattle.store.proofs.Admitting.{admitted-refused, admitted-ended}
+use Rattle.store.proofs.Outcomes.{admitted-refused, admitted-ended}
 use borrow.Author.Needs.{needs}
 use Rattle.store.proofs.admit.Statement.{statement}
 use Rattle.store.proofs.admit.Tie as tie

@@ -12,14 +12,16 @@ use Rattle.chunker.specs.Chunks.{chunks}
 use Rattle.chunker.proofs.NextChunk.{NextChunk}
 use Rattle.store.specs.Filling.{filling, filled, step}
 use Rattle.store.specs.Admission.{begun}
-use Rattle.store.proofs.Admitting.{Admitting, admitting-starts, admitting-on, admitting-stops, admitting-ends, ready, feeds, all-bytes, ended-refused, ended-counted}
+use Rattle.store.proofs.Opening.{feeds, all-bytes}
+use Rattle.store.proofs.Outcomes.{run}
+use Rattle.store.proofs.Admitting.{Admitting, admitting-starts, admitting-on, admitting-stops, admitting-ends, ready}
 use Rattle.store.proofs.admission.admit.Statement.{statement}
 use Rattle.store.proofs.admission.admit.Tie as tie
 
 abbrev Inv-loop : tie.InvT-loop
 Inv-loop head pool₀ directory₀ recipe₀ job scanner progress₀ at₀ pool directory recipe progress at =
     Admitting head (filling progress pool directory recipe) job at
-    (filled (begun head pool₀ directory₀ recipe₀) (chunks (head .window) job))
+    (run head pool₀ directory₀ recipe₀ job)
     × (length pool ≡ length pool₀) × (length directory ≡ length directory₀) × (length recipe ≡ length recipe₀)
 
 abbrev μ-loop : tie.MeasureT-loop
@@ -114,7 +116,7 @@ returns c =
     let refusal : accepted (c .before .before .before .before .before .before .before .before .before .admit-chunk .result .refusal) ≡ false =
     sym (c .before .before .accepted .ensures) ∙ not-true _ (c .before .if1 .taken) in
     let stops = admitting-stops (c .before .before .before .before .before .before .before .before .before .before .before .before .before .before .before .before .before .before .loop .inv .0) _ (next-of (c .before .before .before .before .before .before .before .before .before .before .before .before .before .before .before)) (rw (s .0) at refusal) in (
-      c .refused .ensures ∙ (rw (s .0) (ended-refused _ _ _ _ stops (rw (s .0) at refusal))),
+      c .refused .ensures ∙ (rw (s .0, ← stops, rw (s .0) at refusal)),
       (
         ap (λ x. x .pool) (s .1) ∙ ap (λ x. x .filling .pool) stops,
         (
@@ -160,7 +162,7 @@ same-length-6 c = c .before .before .loop .inv .3
 returns-2 : tie.Need-returns-2 Inv-loop μ-loop
 returns-2 c =
     let ends = admitting-ends (c .before .before .loop .inv .0) (c .before .loop-test .left) in (
-      c .counted .ensures ∙ ended-counted _ _ _ _ ends,
+      c .counted .ensures ∙ rw (← ends),
       (ap (λ x. x .filling .pool) ends, (ap (λ x. x .filling .directory) ends, ap (λ x. x .filling .recipe) ends)),
     )
 
