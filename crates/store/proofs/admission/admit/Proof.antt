@@ -1,40 +1,63 @@
 -- `store::admission::admit` meets its contract: each turn admits the job's next chunk.
-use Prim.Native.Nat.{ℕ, _+_, _-_, _<_}
+use Prim.Native.Nat.{ℕ, _+_, _-_, _≤_}
 use native.Mathlib.Omega.{arith}
 use mathlib.Core.Path.{_≡_, refl, sym, ap, _∙_}
-use mathlib.Core.Bool.{true, false}
 use mathlib.Core.List.{List}
 use borrow.Author.Needs.{needs}
 use borrow.Author.Tests.{not-true, not-false}
 use lib.ListN.{length, drop, take, length-drop}
 use Rattle.refusal.specs.Number.{accepted}
-use Rattle.chunker.specs.Chunks.{chunks}
 use Rattle.chunker.proofs.NextChunk.{NextChunk}
-use Rattle.store.specs.Filling.{filling, filled, step}
-use Rattle.store.specs.Admission.{begun}
+use Rattle.store.specs.Filling.{Filling, filling}
 use Rattle.store.proofs.Opening.{feeds, all-bytes}
+use Rattle.store.proofs.Steps.{Leaves}
 use Rattle.store.proofs.Outcomes.{run}
-use Rattle.store.proofs.Admitting.{Admitting, admitting-starts, admitting-on, admitting-stops, admitting-ends, ready}
+use Rattle.store.proofs.Admitting.{Admitting, ready}
+use Rattle.store.proofs.Admitting.{admitting-starts, admitting-on, admitting-stops, admitting-ends}
 use Rattle.store.proofs.admission.admit.Statement.{statement}
 use Rattle.store.proofs.admission.admit.Tie as tie
 
 abbrev Inv-loop : tie.InvT-loop
 Inv-loop head pool₀ directory₀ recipe₀ job scanner progress₀ at₀ pool directory recipe progress at =
-    Admitting head (filling progress pool directory recipe) job at
-    (run head pool₀ directory₀ recipe₀ job)
+    Admitting head (filling progress pool directory recipe) job at (run head pool₀ directory₀ recipe₀ job)
     × (length pool ≡ length pool₀) × (length directory ≡ length directory₀) × (length recipe ≡ length recipe₀)
 
 abbrev μ-loop : tie.MeasureT-loop
 μ-loop head pool₀ directory₀ recipe₀ job scanner progress₀ at₀ pool directory recipe progress at = length job - at
+
+-- the places of the code that the needs below go back to: the start, the head of a turn, its feed and its chunk
+abbrev start-of : tie.At-loop Inv-loop μ-loop → tie.Start Inv-loop μ-loop
+start-of t = t .before .before .before .before .before .before .before .before .before
+
+abbrev turn-of : tie.After-feed Inv-loop μ-loop → tie.At-loop Inv-loop μ-loop
+turn-of c = c .before .before .before
+
+abbrev feed-of : tie.After-admit-chunk Inv-loop μ-loop → tie.After-feed Inv-loop μ-loop
+feed-of c = c .before .before .before .before .before .before
+
+abbrev chunk-of : tie.After-accepted Inv-loop μ-loop → tie.After-admit-chunk Inv-loop μ-loop
+chunk-of c = c .before .before .before .before .before .before .before
+
+-- the job, what is admitted of it at the head of a turn, and the next chunk
+abbrev job-of : tie.At-loop Inv-loop μ-loop → List ℕ
+job-of t = start-of t .args .job .now
+
+abbrev filling-of : tie.At-loop Inv-loop μ-loop → Filling
+filling-of t = filling (t .loop .progress) (t .loop .pool) (t .loop .directory) (t .loop .recipe)
+
+abbrev next-chunk : tie.After-feed Inv-loop μ-loop → List ℕ
+next-chunk c = take (c .feed .result .consumed) (drop (turn-of c .loop .at) (job-of (turn-of c)))
 
 open-requires : tie.Need-open-requires Inv-loop μ-loop
 open-requires c κs = search needs
 
 loop-holds : tie.Need-loop-holds Inv-loop μ-loop
 loop-holds c =
-    let start = c .before .before .before .before .before .before .before .before in (
-      admitting-starts (start .args .head) (start .args .pool .now) (start .args .directory .now) (start .args .recipe .now)
-          (start .args .job .now) (all-bytes (start .args .job .now) (λ i. omega (arith, c .before .before .before .before .shared-slice-known .given i))) (start .pre),
+    let given = c .before .before .before .before .shared-slice-known .given in
+    let a = c .before .before .before .before .before .before .before .before .args in
+    let bytes = all-bytes (a .job .now) (λ i. omega (arith, given i)) in (
+      admitting-starts (a .head) (a .pool .now) (a .directory .now) (a .recipe .now) (a .job .now) bytes
+          (c .before .before .before .before .before .before .before .before .pre),
       refl,
       refl,
       refl,
@@ -54,15 +77,22 @@ feed-requires c κs = search needs
 
 -- the answer to the feed has the next chunk
 next-of : (c : tie.After-feed Inv-loop μ-loop)
-    → NextChunk (c .before .before .before .before .before .before .before .before .before .before .before .before .args .head .window) (drop (c .before .before .before .loop .at) (c .before .before .before .before .before .before .before .before .before .before .before .before .args .job .now)) (c .feed .result)
+    → NextChunk (start-of (turn-of c) .args .head .window) (drop (turn-of c .loop .at) (job-of (turn-of c)))
+    (c .feed .result)
 next-of c =
-    feeds _ (c .before .before .before .loop .inv .0 .allowed) _ (c .before .before .before .before .before .before .before .«open» .ensures) _ _
-    (c .before .before .loop-test .taken) _ (c .feed .ensures)
+    let turn = turn-of c in
+    let opening = turn .before .before .before .before .«open» .ensures in
+    feeds _ (turn .loop .inv .0 .allowed) _ opening _ _ (c .before .before .loop-test .taken) _ (c .feed .ensures)
+
+-- which ends no later than the job
+within : (c : tie.After-feed Inv-loop μ-loop)
+    → turn-of c .loop .at + c .feed .result .consumed ≤ length (job-of (turn-of c))
+within c =
+    let left = length-drop (turn-of c .loop .at) (job-of (turn-of c)) in
+    omega (arith, next-of c .within, c .before .before .loop-test .taken)
 
 add-end : tie.Need-add-end Inv-loop μ-loop
-add-end c =
-    let next = next-of (c .before) in
-    omega (arith, next .within, length-drop (c .before .before .before .before .loop .at) (c .before .before .before .before .before .before .before .before .before .before .before .before .before .args .job .now))
+add-end c = omega (arith, within (c .before))
 
 sub-admit-chunk : tie.Need-sub-admit-chunk Inv-loop μ-loop
 sub-admit-chunk c = omega arith
@@ -71,29 +101,24 @@ part-admit-chunk-start : tie.Need-part-admit-chunk-start Inv-loop μ-loop
 part-admit-chunk-start c = omega arith
 
 part-admit-chunk-end : tie.Need-part-admit-chunk-end Inv-loop μ-loop
-part-admit-chunk-end c =
-    let next = next-of (c .before .before .before .before) in
-    omega (arith, next .within, length-drop (c .before .before .before .before .before .before .before .loop .at) (c .before .before .before .before .before .before .before .before .before .before .before .before .before .before .before .before .args .job .now))
+part-admit-chunk-end c = omega (arith, within (c .before .before .before .before))
+
+-- the part of the job that the code hands on is the next chunk
+handed-on : (c : tie.After-feed Inv-loop μ-loop)
+    → turn-of c .loop .at + c .feed .result .consumed - turn-of c .loop .at ≡ c .feed .result .consumed
+handed-on c = omega arith
 
 admit-chunk-requires : tie.Need-admit-chunk-requires Inv-loop μ-loop
 admit-chunk-requires c κs =
-    let at = c .before .before .before .before .before .before .before .before .loop .at in
-    let consumed : at + c .before .before .before .before .before .feed .result .consumed - at ≡ c .before .before .before .before .before .feed .result .consumed = omega arith in
-    rw consumed (ready (c .before .before .before .before .before .before .before .before .loop .inv .0) _ (next-of (c .before .before .before .before .before)))
+    let fed = c .before .before .before .before .before in
+    rw (handed-on fed) (ready (turn-of fed .loop .inv .0) _ (next-of fed))
 
 -- the call of `admit_chunk` takes the step of the next chunk
 stepped : (c : tie.After-admit-chunk Inv-loop μ-loop)
-    → (c .admit-chunk .result .refusal
-    ≡ step (filling (c .before .before .before .before .before .before .before .before .before .loop .progress) (c .before .before .before .before .before .before .before .before .before .loop .pool) (c .before .before .before .before .before .before .before .before .before .loop .directory) (c .before .before .before .before .before .before .before .before .before .loop .recipe))
-    (take (c .before .before .before .before .before .before .feed .result .consumed) (drop (c .before .before .before .before .before .before .before .before .before .loop .at) (c .before .before .before .before .before .before .before .before .before .before .before .before .before .before .before .before .before .before .args .job .now))) .refusal)
-    × (filling (c .admit-chunk .result .progress) (c .admit-chunk .last .1 .0) (c .admit-chunk .last .1 .1 .0)
-    (c .admit-chunk .last .1 .1 .1 .0)
-    ≡ step (filling (c .before .before .before .before .before .before .before .before .before .loop .progress) (c .before .before .before .before .before .before .before .before .before .loop .pool) (c .before .before .before .before .before .before .before .before .before .loop .directory) (c .before .before .before .before .before .before .before .before .before .loop .recipe))
-    (take (c .before .before .before .before .before .before .feed .result .consumed) (drop (c .before .before .before .before .before .before .before .before .before .loop .at) (c .before .before .before .before .before .before .before .before .before .before .before .before .before .before .before .before .before .before .args .job .now))) .filling)
-stepped c =
-    let at = c .before .before .before .before .before .before .before .before .before .loop .at in
-    let consumed : at + c .before .before .before .before .before .before .feed .result .consumed - at ≡ c .before .before .before .before .before .before .feed .result .consumed = omega arith in
-    rw consumed at (c .admit-chunk .ensures)
+    → Leaves (filling-of (turn-of (feed-of c))) (next-chunk (feed-of c)) (c .admit-chunk .result .refusal)
+    (filling (c .admit-chunk .result .progress) (c .admit-chunk .last .1 .0) (c .admit-chunk .last .1 .1 .0)
+    (c .admit-chunk .last .1 .1 .1 .0))
+stepped c = rw (handed-on (feed-of c)) at (c .admit-chunk .ensures)
 
 accepted-requires : tie.Need-accepted-requires Inv-loop μ-loop
 accepted-requires c κs = search needs
@@ -101,22 +126,34 @@ accepted-requires c κs = search needs
 refused-requires : tie.Need-refused-requires Inv-loop μ-loop
 refused-requires c κs = search needs
 
+-- so far memory keeps its lengths
+kept-of : (c : tie.After-accepted Inv-loop μ-loop)
+    → let call = chunk-of c .admit-chunk .last .1 in
+    let a = start-of (turn-of (feed-of (chunk-of c))) .args in
+    (length (call .0) ≡ length (a .pool .now)) × (length (call .1 .0) ≡ length (a .directory .now))
+    × (length (call .1 .1 .0) ≡ length (a .recipe .now))
+kept-of c =
+    let kept = chunk-of c .admit-chunk .kept .1 in
+    let lengths = turn-of (feed-of (chunk-of c)) .loop .inv in
+    (kept .0 ∙ lengths .1, kept .1 .0 ∙ lengths .2, kept .1 .1 .0 ∙ lengths .3)
+
 same-length : tie.Need-same-length Inv-loop μ-loop
-same-length c = c .before .before .before .before .before .before .before .before .before .admit-chunk .kept .1 .0 ∙ c .before .before .before .before .before .before .before .before .before .before .before .before .before .before .before .before .before .before .loop .inv .1
+same-length c = kept-of (c .before .before) .0
 
 same-length-2 : tie.Need-same-length-2 Inv-loop μ-loop
-same-length-2 c = c .before .before .before .before .before .before .before .before .before .admit-chunk .kept .1 .1 .0 ∙ c .before .before .before .before .before .before .before .before .before .before .before .before .before .before .before .before .before .before .loop .inv .2
+same-length-2 c = kept-of (c .before .before) .1
 
 same-length-3 : tie.Need-same-length-3 Inv-loop μ-loop
-same-length-3 c = c .before .before .before .before .before .before .before .before .before .admit-chunk .kept .1 .1 .1 .0 ∙ c .before .before .before .before .before .before .before .before .before .before .before .before .before .before .before .before .before .before .loop .inv .3
+same-length-3 c = kept-of (c .before .before) .2
 
 returns : tie.Need-returns Inv-loop μ-loop
 returns c =
-    let s = stepped (c .before .before .before .before .before .before .before .before .before) in
-    let refusal : accepted (c .before .before .before .before .before .before .before .before .before .admit-chunk .result .refusal) ≡ false =
-    sym (c .before .before .accepted .ensures) ∙ not-true _ (c .before .if1 .taken) in
-    let stops = admitting-stops (c .before .before .before .before .before .before .before .before .before .before .before .before .before .before .before .before .before .before .loop .inv .0) _ (next-of (c .before .before .before .before .before .before .before .before .before .before .before .before .before .before .before)) (rw (s .0) at refusal) in (
-      c .refused .ensures ∙ (rw (s .0, ← stops, rw (s .0) at refusal)),
+    let call = chunk-of (c .before .before) in
+    let s = stepped call in
+    let tested = sym (c .before .before .accepted .ensures) ∙ not-true _ (c .before .if1 .taken) in
+    let refused = sym (ap accepted (s .0)) ∙ tested in
+    let stops = admitting-stops (turn-of (feed-of call) .loop .inv .0) _ (next-of (feed-of call)) refused in (
+      c .refused .ensures ∙ rw (s .0, ← stops, refused),
       (
         ap (λ x. x .pool) (s .1) ∙ ap (λ x. x .filling .pool) stops,
         (
@@ -128,21 +165,22 @@ returns c =
 
 loop-less : tie.Need-loop-less Inv-loop μ-loop
 loop-less c =
-    let next = next-of (c .before .before .before .before .before .before .before .before .before .before .before .before .before .before .before) in
-    omega (arith, next .some, next .within, length-drop (c .before .before .before .before .before .before .before .before .before .before .before .before .before .before .before .before .before .before .loop .at) (c .before .before .before .before .before .before .before .before .before .before .before .before .before .before .before .before .before .before .before .before .before .before .before .before .before .before .before .args .job .now))
+    let fed = feed-of (chunk-of (c .before .before)) in
+    omega (arith, next-of fed .some, within fed)
 
 loop-again : tie.Need-loop-again Inv-loop μ-loop
 loop-again c =
-    let s = stepped (c .before .before .before .before .before .before .before .before .before) in
-    let kept = c .before .before .before .before .before .before .before .before .before .admit-chunk .kept in
-    let lengths = c .before .before .before .before .before .before .before .before .before .before .before .before .before .before .before .before .before .before .loop .inv in
-    let accept : accepted (c .before .before .before .before .before .before .before .before .before .admit-chunk .result .refusal) ≡ true =
-    sym (c .before .before .accepted .ensures) ∙ not-false _ (c .before .if1 .left) in (
-      admitting-on (c .before .before .before .before .before .before .before .before .before .before .before .before .before .before .before .before .before .before .loop .inv .0) _ (next-of (c .before .before .before .before .before .before .before .before .before .before .before .before .before .before .before)) (rw (s .0) at accept) _ (s .1) (kept .1 .0) (kept .1 .1 .0)
-          (kept .1 .1 .1 .0),
-      kept .1 .0 ∙ lengths .1,
-      kept .1 .1 .0 ∙ lengths .2,
-      kept .1 .1 .1 .0 ∙ lengths .3,
+    let call = chunk-of (c .before .before) in
+    let s = stepped call in
+    let tested = sym (c .before .before .accepted .ensures) ∙ not-false _ (c .before .if1 .left) in
+    let admitted = sym (ap accepted (s .0)) ∙ tested in
+    let kept = call .admit-chunk .kept .1 in
+    let lengths = kept-of (c .before .before) in (
+      admitting-on (turn-of (feed-of call) .loop .inv .0) _ (next-of (feed-of call)) admitted _ (s .1) (kept .0)
+          (kept .1 .0) (kept .1 .1 .0),
+      lengths .0,
+      lengths .1,
+      lengths .2,
     )
 
 counted-requires : tie.Need-counted-requires Inv-loop μ-loop

@@ -1,7 +1,6 @@
 -- `store::admission::counted` meets its contract.
 use Prim.Native.Nat.{_+_, _*_}
 use native.Mathlib.Omega.{arith}
-use mir.Syntax.{w64}
 use mir.Facts.{toZ-ofZ}
 use Rattle.store.proofs.Saving.{same-difference, saving-fits}
 use borrow.Author.Needs.{needs}
@@ -22,15 +21,15 @@ cast-t11 c = search needs
 
 sub-t12 : tie.Need-sub-t12
 sub-t12 c =
-    let start = c .before .before .before .before in
-    saving-fits (start .args .job-length) (start .args .progress .«new_bytes» + 2 * start .args .progress .«recipe_length»)
-    (omega arith) (omega arith)
+    let a = c .before .before .before .before .args in
+    let charged = a .progress .«new_bytes» + 2 * a .progress .«recipe_length» in
+    saving-fits (a .job-length) charged (omega arith) (omega arith)
 
 returns : tie.Need-returns
 returns c =
-    let start = c .before .before .before .before in
-    let charged = start .args .progress .«new_bytes» + 2 * start .args .progress .«recipe_length» in
-    rw (toZ-ofZ (sub-t12 c), same-difference (start .args .job-length) charged (omega arith) (omega arith))
+    let a = c .before .before .before .before .args in
+    let charged = a .progress .«new_bytes» + 2 * a .progress .«recipe_length» in
+    rw (toZ-ofZ (sub-t12 c), same-difference (a .job-length) charged (omega arith) (omega arith))
 
 pub counted-spec : {M : Type 1} → statement M
 counted-spec = tie.close (tie.spec mul-charged add-charged cast-t10 cast-t11 sub-t12 returns)

@@ -25,7 +25,11 @@ laid-out-requires c κs = search needs
 returns-3 : tie.Need-returns-3
 unfolding fits
 returns-3 c =
-    rw (le-leb _ _ (c .before .before .before .before .if1 .left), le-leb _ _ (c .before .if2 .left), c .laid-out .ensures)
+    rw (
+      le-leb _ _ (c .before .before .before .before .if1 .left),
+      le-leb _ _ (c .before .if2 .left),
+      c .laid-out .ensures,
+    )
 
 pub fits-spec : {M : Type 1} → statement M
 fits-spec = tie.close (tie.spec cast-count returns cast-end returns-2 laid-out-requires returns-3)

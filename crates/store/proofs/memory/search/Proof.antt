@@ -3,7 +3,8 @@ use Prim.Native.Nat.{_-_}
 use native.Mathlib.Omega.{arith}
 use mathlib.Core.Path.{sym, _∙_}
 use lib.ListN.{length}
-use Rattle.store.proofs.Searching.{Searched, searched-none, searched-all, searched-other-length, Compared, compared-none, compared-more, compared-other, compared-all}
+use Rattle.store.proofs.Searching.{Searched, searched-none, searched-all, searched-other-length}
+use Rattle.store.proofs.Searching.{Compared, compared-none, compared-more, compared-other, compared-all}
 use Rattle.store.proofs.memory.search.Statement.{statement}
 use Rattle.store.proofs.memory.search.Tie as tie
 
@@ -64,7 +65,8 @@ entries-less-2 c = omega arith
 
 entries-again-2 : tie.Need-entries-again-2 Inv-loop μ-loop Inv-entries μ-entries
 entries-again-2 c =
-    compared-other (c .before .before .before .before .loop .inv) (c .before .before .before .loop-test .taken) (c .if2 .taken)
+    compared-other (c .before .before .before .before .loop .inv) (c .before .before .before .loop-test .taken)
+    (c .if2 .taken)
 
 add-i : tie.Need-add-i Inv-loop μ-loop Inv-entries μ-entries
 add-i c = omega arith
@@ -74,7 +76,8 @@ loop-less c = omega arith
 
 loop-again : tie.Need-loop-again Inv-loop μ-loop Inv-entries μ-entries
 loop-again c =
-    compared-more (c .before .before .before .before .loop .inv) (c .before .before .before .loop-test .taken) (c .if2 .left)
+    compared-more (c .before .before .before .before .loop .inv) (c .before .before .before .loop-test .taken)
+    (c .if2 .left)
 
 sub-t19 : tie.Need-sub-t19 Inv-loop μ-loop Inv-entries μ-entries
 sub-t19 c = omega arith
