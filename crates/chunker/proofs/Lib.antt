@@ -12,6 +12,7 @@ pub mod KeptMaximum
 pub mod CutPlaces
 pub mod SharedEnding
 pub mod SharedBeginning
+pub mod EqualTail
 pub mod Blocks
 pub mod Scanning
 pub mod Underway

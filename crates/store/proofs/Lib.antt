@@ -18,3 +18,5 @@ pub mod Searching
 pub mod Saving
 pub mod Steps
 pub mod Admitting
+pub mod StarredJobs
+pub mod Examples
