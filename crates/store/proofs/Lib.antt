@@ -10,9 +10,10 @@ pub mod Admissions
 pub mod Appearances
 pub mod History
 pub mod Promise
+pub mod Lengths
+pub mod ChunkOfNumber
 pub mod Opening
 pub mod LaidOut
-pub mod Shown
 pub mod Copying
 pub mod Searching
 pub mod Saving

@@ -1,7 +1,8 @@
 // The store: a head, a lent pool of chunk bytes and a lent directory of their places.
 ghost use mathlib.Core.Path.{_≡_};
 ghost use Rattle.store.specs.Admission.{opened, admitted};
-ghost use Rattle.store.specs.Looking.{lookGround, shown};
+ghost use Rattle.store.specs.Contents.{chunkAt};
+ghost use Rattle.store.specs.Looking.{storeGround, lookGround, shown};
 
 mod admission;
 mod grounds;
@@ -99,6 +100,13 @@ pub fn admit(
     admission::admit(head, pool, directory, recipe, job)
 }
 
+// The first of the grounds 1, 4 and 5 that holds of a store, if any.
+pub fn refusal_of(head: Head, pool: &[u8], directory: &[u32]) -> Refusal
+    ensures { λ r. ⌜ r ≡ storeGround head (now (pool .entry)) (now (directory .entry)) ⌝ }
+{
+    grounds::of_store(head, pool, directory)
+}
+
 // The first of the grounds 1, 4, 5 and 9 on which a look at a chunk is refused, if any.
 pub fn look_refusal(head: Head, pool: &[u8], directory: &[u32], number: ChunkNumber) -> Refusal
     ensures { λ r. ⌜ r ≡ lookGround head (now (pool .entry)) (now (directory .entry)) number ⌝ }
@@ -127,8 +135,26 @@ pub fn look<'p, 'd>(
     if !refusal::accepted(ground) {
         return &pool[0..0];
     }
+    chunk_at(pool, directory, number)
+}
+
+// The stretch of the pool that a number's entry gives, for a caller that has tested the grounds. It
+// is cut off at the pool's end, and empty where the directory has no such entry.
+pub fn chunk_at<'p, 'd>(pool: &'p [u8], directory: &'d [u32], number: ChunkNumber) -> &'p [u8]
+    ensures { λ r. ⌜ now r ≡ chunkAt (now (pool .entry)) (now (directory .entry)) (number .0) ⌝ }
+{
     let entry = number.0 as usize;
+    if directory.len() <= entry * 2 + 1 {
+        return &pool[0..0];
+    }
     let from = memory::offset_of(directory, entry);
-    let to = from + memory::length_of(directory, entry);
+    if pool.len() < from {
+        return &pool[0..0];
+    }
+    let size = memory::length_of(directory, entry);
+    if pool.len() - from < size {
+        return &pool[from..];
+    }
+    let to = from + size;
     &pool[from..to]
 }

@@ -1,0 +1,118 @@
+-- The recipe of each accepted job gives the job back at every later place of a list of events.
+use Prim.Native.Nat.{ℕ, _≤_, _<_}
+use native.Mathlib.Omega.{arith}
+use mathlib.Core.Path.{_≡_, refl, ap₂, sym, _∙_}
+use mathlib.Core.Bool.{true}
+use mathlib.Core.List.{List, [], _∷_, _++_, map}
+use borrow.Author.Tests.{leb-true, le-leb, lt-ltb}
+use lib.ListN.{length, drop, length-take}
+use Rattle.refusal.specs.Number.{accepted}
+use Rattle.refusal.specs.declared.Refusal.the-variants.{Accepted}
+use Rattle.chunker.specs.Splitting.{joined}
+use Rattle.chunker.specs.Chunks.{chunks}
+use Rattle.chunker.proofs.ChunkSizes.{chunks-joined}
+use Rattle.store.specs.declared.Head.{Head}
+use Rattle.store.specs.Directory.{storeAllowed, recipeAllowed}
+use Rattle.store.specs.Contents.{contents, number}
+use Rattle.store.specs.Admission.{Admission}
+use Rattle.store.specs.History.{Event, start, before, AcceptedAt, outcomeAt, recipeOf, AllBytes}
+use Rattle.store.proofs.Growth.{Among, among-each}
+use Rattle.store.proofs.ChunkOfNumber.{number-counted, chunk-of-number}
+use Rattle.store.proofs.History.{adds-at, recipe-stays, chunks-stay, start-fits, standing}
+use Rattle.store.proofs.Lengths.{as-long, within-limits, store-allowed-alike, lengths-stay}
+use Rattle.rebuild.specs.Rebuilding.{Rebuilding, rebuiltBytes, allBelow, rebuildGround, rebuilt}
+use Rattle.rebuild.proofs.RebuildGround.{all-pass}
+
+-- a rebuilding into lent memory is accepted, writes a job and tells its length
+pub record GivesBack (job lent : List ℕ) (r : Rebuilding) : Type 0 where
+  pub refusal : r .answer .refusal ≡ Accepted
+  pub written : r .answer .written ≡ length job
+  pub output : r .output ≡ job ++ drop (length job) lent
+
+module _ (pool directory : List ℕ) (n : ℕ) where
+  -- the numbers of chunks that a store holds name those chunks
+  numbers-rebuilt : (cs : List (List ℕ)) → Among cs (contents pool directory n)
+      → rebuiltBytes pool directory (map (number (contents pool directory n)) cs) ≡ joined cs
+  unfolding rebuiltBytes
+  numbers-rebuilt [] h = refl
+  numbers-rebuilt (c ∷ cs) h =
+      ap₂ _++_ (chunk-of-number pool directory n c (among-each (contents pool directory n) c cs h .0))
+      (numbers-rebuilt cs (among-each (contents pool directory n) c cs h .1))
+
+  -- and are below the count
+  numbers-below : (cs : List (List ℕ)) → Among cs (contents pool directory n)
+      → allBelow n (map (number (contents pool directory n)) cs) ≡ true
+  unfolding allBelow
+  numbers-below [] h = refl
+  numbers-below (c ∷ cs) h =
+      rw (lt-ltb _ _ (number-counted pool directory n c (among-each (contents pool directory n) c cs h .0)))
+      (numbers-below cs (among-each (contents pool directory n) c cs h .1))
+
+-- the recipe of an admission that was lent one within the limit is within it
+recipe-of-allowed : (a : Admission) (lent : List ℕ) → length (a .recipe) ≡ length lent → recipeAllowed lent ≡ true
+    → recipeAllowed (recipeOf a) ≡ true
+unfolding recipeAllowed
+recipe-of-allowed a lent e h =
+    let n = a .answer .«recipe_length» in
+    le-leb (length (recipeOf a)) 65535 (omega (arith, length-take n (a .recipe), leb-true (length lent) 65535 h))
+
+-- a rebuilding on which no ground holds
+rebuilt-accepted : (head : Head) (pool directory recipe output : List ℕ)
+    → rebuildGround head pool directory recipe output ≡ Accepted
+    → (job : List ℕ) → rebuiltBytes pool directory recipe ≡ job
+    → GivesBack job output (rebuilt head pool directory recipe output)
+unfolding rebuilt
+rebuilt-accepted head pool directory recipe output g job e =
+    rw (g, e) (record { refusal = refl; written = refl; output = refl })
+
+module _ (w : ℕ) (pool directory : List ℕ) (events : List Event) (b : AllBytes events)
+    (i : ℕ) (job recipe : List ℕ) (a : AcceptedAt (start w pool directory) events i job recipe) where
+  -- the memory that the admission was lent is within the limits at each place
+  memory-allowed : (j : ℕ)
+      → let later = before (start w pool directory) events j in
+      storeAllowed (later .pool) (later .directory) ≡ true
+  memory-allowed j =
+      let s = start w pool directory in
+      let t = before s events i in
+      let here = lengths-stay s (start-fits w pool directory) events b i in
+      let there = lengths-stay s (start-fits w pool directory) events b j in
+      store-allowed-alike (t .pool) (t .directory) _ _
+      (there .poolLength ∙ sym (here .poolLength)) (there .directoryLength ∙ sym (here .directoryLength))
+      (within-limits (t .head) (t .pool) (t .directory) recipe job (a .accepted) .0)
+
+  -- so is its recipe
+  recipe-allowed : recipeAllowed (recipeOf (outcomeAt (start w pool directory) events i job recipe)) ≡ true
+  recipe-allowed =
+      let s = start w pool directory in
+      let t = before s events i in
+      let f = standing w pool directory events b i .fitting in
+      recipe-of-allowed (outcomeAt s events i job recipe) recipe
+      (as-long (t .head) (t .pool) (t .directory) recipe job f .recipeLength)
+      (within-limits (t .head) (t .pool) (t .directory) recipe job (a .accepted) .1)
+
+-- a job that is accepted at place i is given back by its recipe from the store as it stands before each later place j,
+-- whatever was admitted or refused between; past the list's end, that is the store after the whole list
+pub gives-back : (w : ℕ) (pool directory : List ℕ) (events : List Event) → AllBytes events
+    → (i : ℕ) (job recipe : List ℕ) → AcceptedAt (start w pool directory) events i job recipe
+    → (j : ℕ) → i < j → (output : List ℕ) → length job ≤ length output
+    → let later = before (start w pool directory) events j in
+    GivesBack job output
+    (rebuilt (later .head) (later .pool) (later .directory)
+    (recipeOf (outcomeAt (start w pool directory) events i job recipe)) output)
+gives-back w pool directory events b i job recipe a j h output room =
+    let s = start w pool directory in
+    let t = before s events j in
+    let f = start-fits w pool directory in
+    let numbers = recipe-stays s f events b i job recipe a j h in
+    let among = chunks-stay s f events b i job recipe a j h in
+    let bytes : rebuiltBytes (t .pool) (t .directory) (recipeOf (outcomeAt s events i job recipe)) ≡ job =
+    rw numbers (numbers-rebuilt (t .pool) (t .directory) (t .head .chunks .0) (chunks w job) among ∙ chunks-joined w job) in
+    rebuilt-accepted (t .head) (t .pool) (t .directory) _ output
+    (all-pass (t .head) (t .pool) (t .directory) _ output
+    (rw (standing w pool directory events b j .window) (adds-at s f events b i job recipe a .allowed))
+    (memory-allowed w pool directory events b i job recipe a j)
+    (recipe-allowed w pool directory events b i job recipe a)
+    (standing w pool directory events b j .fitting)
+    (rw numbers (numbers-below (t .pool) (t .directory) (t .head .chunks .0) (chunks w job) among))
+    (rw bytes room))
+    job bytes

@@ -1,0 +1,6 @@
+pub mod Parts
+pub mod StagedParts
+pub mod Recipes
+pub mod ChunksWritten
+pub mod RebuildGround
+pub mod GivesBack

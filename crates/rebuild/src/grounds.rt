@@ -1,0 +1,72 @@
+// The grounds on which a rebuilding is turned away.
+ghost use mathlib.Core.Path.{_≡_};
+ghost use Prim.Native.Nat.{_≤_};
+ghost use lib.ListN.{length};
+ghost use Rattle.rebuild.specs.Rebuilding.{rebuiltBytes, allBelow, rebuildGround};
+use refusal::Refusal;
+use store::ChunkNumber;
+use store::Head;
+
+// Ground 9 holds of no number of a recipe.
+fn all_below(chunks: ChunkNumber, recipe: &[u32]) -> bool
+    ensures { λ r. ⌜ r ≡ allBelow (chunks .0) (now (recipe .entry)) ⌝ }
+{
+    let count = chunks.0;
+    let mut i = 0;
+    while i < recipe.len() {
+        if count <= recipe[i] {
+            return false;
+        }
+        i += 1;
+    }
+    true
+}
+
+// The length of a rebuilt job, which 32 bits need not hold.
+fn rebuilt_length(pool: &[u8], directory: &[u32], recipe: &[u32]) -> u64
+    requires { ⌜ length (now pool) ≤ 67108864 ⌝ }
+    requires { ⌜ length (now recipe) ≤ 65535 ⌝ }
+    ensures { λ r. ⌜ r ≡ length (rebuiltBytes (now (pool .entry)) (now (directory .entry)) (now (recipe .entry))) ⌝ }
+{
+    let mut total: u64 = 0;
+    let mut i = 0;
+    while i < recipe.len() {
+        let number = recipe[i];
+        let chunk = store::chunk_at(pool, directory, ChunkNumber(number));
+        total += chunk.len() as u64;
+        i += 1;
+    }
+    total
+}
+
+// The first of the grounds 1, 4, 5, 9 and 10 that holds. A recipe over its limit is ground 4, so it
+// is tested before ground 5.
+pub fn of_rebuilding(
+    head: Head,
+    pool: &[u8],
+    directory: &[u32],
+    recipe: &[u32],
+    output: &[u8],
+) -> Refusal
+    ensures { λ r. ⌜ r ≡ rebuildGround head (now (pool .entry)) (now (directory .entry)) (now (recipe .entry)) (now (output .entry)) ⌝ }
+{
+    let scanner = chunker::open(head.window);
+    let refusal = scanner.refusal;
+    if !refusal::accepted(refusal) {
+        return refusal;
+    }
+    if 65535 < recipe.len() {
+        return Refusal::MemoryLimit;
+    }
+    let ground = store::refusal_of(head, pool, directory);
+    if !refusal::accepted(ground) {
+        return ground;
+    }
+    if !all_below(head.chunks, recipe) {
+        return Refusal::ChunkNumber;
+    }
+    if (output.len() as u64) < rebuilt_length(pool, directory, recipe) {
+        return Refusal::OutputShort;
+    }
+    Refusal::Accepted
+}
