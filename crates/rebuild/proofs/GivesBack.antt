@@ -20,14 +20,8 @@ use Rattle.store.proofs.Growth.{Among, among-each}
 use Rattle.store.proofs.ChunkOfNumber.{number-counted, chunk-of-number}
 use Rattle.store.proofs.History.{adds-at, recipe-stays, chunks-stay, start-fits, standing}
 use Rattle.store.proofs.Lengths.{as-long, within-limits, store-allowed-alike, lengths-stay}
-use Rattle.rebuild.specs.Rebuilding.{Rebuilding, rebuiltBytes, allBelow, rebuildGround, rebuilt}
+use Rattle.rebuild.specs.Rebuilding.{Rebuilding, rebuiltBytes, allBelow, rebuildGround, rebuilt, GivesBack}
 use Rattle.rebuild.proofs.RebuildGround.{all-pass}
-
--- a rebuilding into lent memory is accepted, writes a job and tells its length
-pub record GivesBack (job lent : List ℕ) (r : Rebuilding) : Type 0 where
-  pub refusal : r .answer .refusal ≡ Accepted
-  pub written : r .answer .written ≡ length job
-  pub output : r .output ≡ job ++ drop (length job) lent
 
 module _ (pool directory : List ℕ) (n : ℕ) where
   -- the numbers of chunks that a store holds name those chunks

@@ -1,5 +1,6 @@
 -- Rebuilding: "The pieces that a recipe names are written to the output one after another".
 use Prim.Native.Nat.{ℕ}
+use mathlib.Core.Path.{_≡_}
 use mathlib.Core.Bool.{Bool, true, cond, _&&_}
 use mathlib.Core.List.{List, [], _∷_, _++_, map}
 use lib.Dec.{leb, ltb}
@@ -53,3 +54,10 @@ rebuilt head pool directory recipe output =
     cond (accepted ground)
     (record { answer = record { refusal = Accepted; written = length bytes }; output = bytes ++ drop (length bytes) output })
     (record { answer = record { refusal = ground; written = 0 }; output = output })
+
+-- "the recipe of each accepted job, given a long enough output, gives back that job's bytes", "Output past the job is
+-- untouched": of a rebuilding into the lent output
+pub record GivesBack (job lent : List ℕ) (r : Rebuilding) : Type 0 where
+  pub refusal : r .answer .refusal ≡ Accepted
+  pub written : r .answer .written ≡ length job
+  pub output : r .output ≡ job ++ drop (length job) lent
