@@ -1,0 +1,5 @@
+pub mod Stores
+pub mod Walking
+pub mod NewChunks
+pub mod Listed
+pub mod HandWorked

@@ -1,0 +1,133 @@
+-- The frames of a job's chunks under way, as the loop keeps them: what is still to write gives what was asked.
+use Prim.Native.Nat.{ℕ, _+_, _-_, _*_, _≤_, _<_}
+use native.Mathlib.Omega.{arith}
+use native.Mathlib.Numerals.{add-one}
+use mathlib.Core.Path.{_≡_, refl, ap, sym, _∙_}
+use mathlib.Core.Bool.{Bool, true, false, cond}
+use mathlib.Core.List.{List, [], _∷_, _++_}
+use lib.Dec.{eqb}
+use lib.ListN.{length, getD, take, drop, length-append, length-drop, length-take, drop-of-length-le}
+use lib.Seq.{sets, length-sets, take-all, drop-drop, drop-cons}
+use Rattle.chunker.specs.declared.Fed.{Fed}
+use Rattle.chunker.specs.Scanner.{fresh, windowAllowed}
+use Rattle.chunker.specs.Answers.{fed}
+use Rattle.chunker.specs.Chunks.{chunks}
+use Rattle.chunker.proofs.NextChunk.{NextChunk, next-chunk, no-chunks}
+use Rattle.listing_frames.specs.Frames.{frame}
+use Rattle.listing_frames.specs.Counted.{mark, countedFrames}
+use Rattle.listing_frames.proofs.Stores.{hex-length, sets-then}
+
+-- "22 upper-case hexadecimal digits and a line feed"
+pub frame-length : (number position size mark : ℕ) → length (frame number position size mark) ≡ 23
+unfolding frame
+frame-length number position size mark = simp (length-append, hex-length)
+
+-- as many frames as chunks
+pub counted-length : (next position : ℕ) (cs : List (List ℕ)) (ns : List ℕ) → length cs ≤ length ns
+    → length (countedFrames next position cs ns) ≡ 23 * length cs
+unfolding countedFrames
+counted-length next position [] ns h = refl
+counted-length next position (c ∷ cs) [] h = absurd (omega arith)
+counted-length next position (c ∷ cs) (n ∷ ns) h =
+    let later = counted-length (next + mark n next) (position + length c) cs ns (omega arith) in
+    rw (length-append (frame n position (length c) (mark n next)) _, frame-length n position (length c) (mark n next), later)
+    (omega arith)
+
+-- a mark is 0 or 1
+pub mark-most : (number next : ℕ) → mark number next ≤ 1
+mark-most number next = step (eqb number next)
+  where
+    step : (t : Bool) → cond t 1 0 ≤ 1
+    step true = omega arith
+    step false = omega arith
+
+-- after `used` chunks, which are the first `at` bytes of the job
+pub record Walking (job recipe before after : List ℕ) (next used at : ℕ) : Type 0 where
+  pub within : at ≤ length job
+  pub few : next ≤ used
+  pub moved : used ≤ at
+  pub kept : length after ≡ length before
+  pub places : used + length (chunks 4 (drop at job)) ≡ length (chunks 4 job)
+  pub gives : sets after (23 * used) (countedFrames next at (chunks 4 (drop at job)) (drop used recipe))
+      ≡ sets before 0 (countedFrames 0 0 (chunks 4 job) recipe)
+
+-- no chunk is written yet
+pub walks-out : (job recipe before : List ℕ) → Walking job recipe before before 0 0 0
+walks-out job recipe before =
+    record {
+      within = omega arith;
+      few = omega arith;
+      moved = omega arith;
+      kept = refl;
+      places = omega arith;
+      gives = refl;
+    }
+
+-- the feed whose answer is f finds the next chunk, for which there is a number
+pub record Found (job recipe : List ℕ) (used at : ℕ) (f : Fed) : Type 0 where
+  pub some : 1 ≤ f .consumed
+  pub within : at + f .consumed ≤ length job
+  pub numbered : used < length recipe
+  pub room : 23 * used + 23 ≤ 23 * length (chunks 4 job)
+  pub next : NextChunk 4 (drop at job) f
+
+module _ {job recipe before after : List ℕ} {next used at : ℕ} (w : Walking job recipe before after next used at) where
+  -- what is fed is what the job has left
+  left : take (length job - at) (drop at job) ≡ drop at job
+  left = take-all (length job - at) (drop at job) (omega (arith, length-drop at job))
+
+  pub finds : at < length job → length (chunks 4 job) ≤ length recipe → (f : Fed)
+      → f ≡ fed (fresh 4) (take (length job - at) (drop at job)) → Found job recipe used at f
+  unfolding windowAllowed
+  finds more enough f e =
+      let rest = length-drop at job in
+      let chunk : NextChunk 4 (drop at job) f = rw (e, left) (next-chunk 4 refl (drop at job) (omega arith)) in
+      let first = ap length (chunk .first) in
+      record {
+        some = chunk .some;
+        within = omega (arith, chunk .within);
+        numbered = omega (arith, w .places);
+        room = omega (arith, w .places);
+        next = chunk;
+      }
+
+  -- its frame is written
+  pub walks-on : {f : Fed} → Found job recipe used at f → (output : List ℕ) (new : ℕ)
+      → new ≡ mark (getD recipe used 0) next
+      → output ≡ sets after (23 * used) (frame (getD recipe used 0) at (f .consumed) new)
+      → Walking job recipe before output (next + new) (used + 1) (at + f .consumed)
+  unfolding countedFrames
+  walks-on {f} found output new e o =
+      let number = getD recipe used 0 in
+      let chunk = found .next in
+      let first = ap length (chunk .first) in
+      let rest = drop-drop (f .consumed) at job in
+      let size : length (take (f .consumed) (drop at job)) ≡ f .consumed =
+      simp length-take (omega (arith, chunk .within)) in
+      let behind = countedFrames (next + new) (at + f .consumed) (chunks 4 (drop (at + f .consumed) job)) (drop (used + 1) recipe) in
+      let written : frame number at (f .consumed) new ++ behind
+      ≡ countedFrames next at (chunks 4 (drop at job)) (drop used recipe) =
+      rw (chunk .first, drop-cons recipe used 0 (found .numbered), size, rest, e, add-one used) in
+      record {
+        within = found .within;
+        few = omega (arith, mark-most number next);
+        moved = omega arith;
+        kept = ap length o ∙ length-sets after (23 * used) (frame number at (f .consumed) new) ∙ w .kept;
+        places = omega (arith, w .places, rw rest at first);
+        gives =
+            rw o
+            (sym (sets-then (frame number at (f .consumed) new) behind after (23 * used) 23 (23 * (used + 1))
+            (frame-length number at (f .consumed) new) (omega arith))
+            ∙ ap (sets after (23 * used)) written ∙ w .gives);
+      }
+
+  -- no chunk is left
+  none : length job ≤ at → chunks 4 (drop at job) ≡ []
+  none h = rw (drop-of-length-le job h) (no-chunks 4)
+
+  pub walks-all : length job ≤ at → used ≡ length (chunks 4 job)
+  walks-all h = omega (arith, w .places, ap length (none h))
+
+  pub walks-ends : length job ≤ at → after ≡ sets before 0 (countedFrames 0 0 (chunks 4 job) recipe)
+  unfolding countedFrames
+  walks-ends h = ap (λ cs. sets after (23 * used) (countedFrames next at cs (drop used recipe))) (sym (none h)) ∙ w .gives
