@@ -9,8 +9,8 @@ use lib.ListN.{length, length-append}
 use borrow.Author.Tests.{eq-eqb, ne-eqb}
 use Rattle.store.specs.Contents.{number}
 use Rattle.store.specs.History.{has}
-use Rattle.store.proofs.Growth.{gain, grown}
-use Rattle.store.proofs.Numbering.{number-below, number-added, gain-has, number-stable}
+use Rattle.store.proofs.Growth.{gain, grown, first-among, grown-has, number-grown}
+use Rattle.store.proofs.Numbering.{number-below, number-added}
 use Rattle.store.proofs.Appearances.{Alike, gain-alike}
 use Rattle.listing_frames.specs.Frames.{frame, chunkFrames}
 use Rattle.listing_frames.specs.Counted.{mark, countedFrames}
@@ -40,7 +40,8 @@ unfolding countedFrames chunkFrames grown
 counted-first held earlier a position [] = refl
 counted-first held earlier a position (c ∷ cs) =
     let m = marked held c in
-    let n : number (grown (gain held c) cs) c ≡ number (gain held c) c = number-stable (gain held c) cs c (gain-has held c) in
+    let there : has (gain held c) c ≡ true = grown-has held (c ∷ []) c (first-among c []) in
+    let n = number-grown (gain held c) cs c there in
     let later = counted-first (gain held c) (earlier ++ (c ∷ [])) (gain-alike held earlier a c) (position + length c) cs in
     rw (n, m .counts, m .first, a c, later)
 
