@@ -1,9 +1,16 @@
 # Each target does all of its own set-up.
 export RT_JOBS ?= 2
 
-.PHONY: test bench
+.PHONY: test list bench
 test:
-	@rt ci
+	@tests/run
+
+# Prints the frames of a job, the first of a fresh store: make list JOB=FILE
+list:
+	@test -f "$(JOB)" || { echo "make list JOB=FILE: the file with the job" >&2; exit 1; }
+	@mkdir -p target
+	@rt check listing >target/list.log 2>&1 || { cat target/list.log; exit 1; }
+	@target/bin/listing <"$(JOB)"
 
 # Measures the proved chunker beside plain implementations of the same method.
 bench:
