@@ -17,7 +17,8 @@ ENTRIES = 1024
 RECIPE_PLACES = 1024
 LONGEST_JOB = 16384
 
-EXAMPLES = sorted((pathlib.Path(__file__).parent.parent / "docs/example").glob("*.zpl"))
+HERE = pathlib.Path(__file__).parent
+STORED = sorted([*(HERE.parent / "docs/example").glob("*.zpl"), *(HERE / "runs").glob("*.job")])
 
 JOB_LENGTH, RECIPE_FULL, DIRECTORY_FULL, POOL_FULL = 3, 6, 7, 8
 
@@ -121,7 +122,7 @@ def inputs(dice):
         yield f"{n}: labels of {len(job)} bytes", job
         part = b"".join(dice.choice((job[:300], job[100:500], label(dice))) for _ in range(dice.randint(1, 12)))
         yield f"{n}: parts of labels, {len(part)} bytes", part
-    for path in EXAMPLES:
+    for path in STORED:
         yield str(path), path.read_bytes()
 
 
@@ -178,9 +179,9 @@ def compare(program):
     for what, job in inputs(dice):
         done = subprocess.run([program], input=job, stdout=subprocess.PIPE, check=True)
         comparison.check(what, done.stdout, listing(job))
-    for path in EXAMPLES:
-        stored = path.with_suffix(".listing").read_bytes()
-        comparison.check(f"the listing beside {path}", stored, listing(path.read_bytes()))
+    for path in STORED:
+        done = subprocess.run([program], input=path.read_bytes(), stdout=subprocess.PIPE, check=True)
+        comparison.check(f"the stored run of {path}", done.stdout, path.with_suffix(".listing").read_bytes())
     for n in range(40):
         job = dice.choice((label(dice) * 3, dice.randbytes(600), rises(dice, 3000), b"A" * 16390))
         comparison.check(f"short reads {n}", run_slowly(program, pieces(dice, job)), listing(job))
