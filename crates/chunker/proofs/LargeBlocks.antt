@@ -1,5 +1,5 @@
 -- A scan that passes large blocks, and looks for the place of the largest byte at the end.
-use Prim.Native.Nat.{ℕ, zero, suc, _+_, _-_, min, _≤_, _<_}
+use Prim.Native.Nat.{ℕ, zero, suc, _+_, _-_, _%_, min, _≤_, _<_}
 use native.Mathlib.Omega.{arith}
 use native.Mathlib.Nat.{le-refl, add-zero, add-suc, suc-add}
 use native.Mathlib.Decide.{decLt, ℕ-discrete}
@@ -7,7 +7,8 @@ use mathlib.Core.Path.{_≡_, refl, subst}
 use mathlib.Core.List.{List}
 use lib.ListN.{length, getD}
 use Rattle.chunker.specs.declared.Fed.{Fed}
-use Rattle.chunker.specs.Largest.{Stands, Largest, FirstAt}
+use Rattle.chunker.specs.declared.largest.Block.{Block}
+use Rattle.chunker.specs.Largest.{Stands, Largest, FirstAt, BlockOf}
 use Rattle.chunker.proofs.Blocks.{first-within}
 use Rattle.chunker.proofs.Underway.{Underway, rises-to, passes-to}
 
@@ -45,93 +46,104 @@ first-unique xs a m i j f g =
       | no c ↦ elim (decLt j i) [ yes e ↦ absurd (f .before j (g .from) e (g .is)) | no e ↦ omega arith ]
     ]
 
--- the largest byte is still v₀ with its deadline d₀, or m, which stands first at j in the block at `from`
-data Known (part : List ℕ) (w d₀ v₀ d m from : ℕ) : Type 0 where
-  old : m ≡ v₀ → d ≡ d₀ → Known part w d₀ v₀ d m from
-  new : (j : ℕ) → v₀ < m → FirstAt part from m j → d ≡ suc j + w → Largest part from (from + 64) m
-      → from + 64 ≤ length part → Known part w d₀ v₀ d m from
+-- the largest byte is still v₀ with its deadline d₀, or that of the block b, which stands first at j
+data Known (part : List ℕ) (w d₀ v₀ d : ℕ) (b : Block) : Type 0 where
+  old : b .most ≡ v₀ → d ≡ d₀ → Known part w d₀ v₀ d b
+  new : (j : ℕ) → v₀ < b .most → FirstAt part (b .from) (b .most) j → d ≡ suc j + w
+      → Largest part (b .from) (b .to) (b .most) → (b .to - b .from) % 16 ≡ 0 → b .to ≤ length part
+      → Known part w d₀ v₀ d b
 
-rising : {part : List ℕ} {w d₀ v₀ d m from : ℕ} → Known part w d₀ v₀ d m from → v₀ ≤ m
+rising : {part : List ℕ} {w d₀ v₀ d : ℕ} {b : Block} → Known part w d₀ v₀ d b → v₀ ≤ b .most
 rising (old a b) = omega arith
-rising (new j a b c e f) = omega arith
+rising (new j a b c e f g) = omega arith
 
--- after i bytes, with the largest byte m in the block at `from`, and the deadline not before `limit`
-pub record Passing (part : List ℕ) (w base d₀ v₀ m from limit i : ℕ) (asked : Fed) : Type 0 where
+-- after i bytes, with the largest byte in the block b, and the deadline not before `limit`
+pub record Passing (part : List ℕ) (w base d₀ v₀ : ℕ) (b : Block) (limit i : ℕ) (asked : Fed) : Type 0 where
   pub deadline : ℕ
-  pub under : Underway part w base deadline m i asked
+  pub under : Underway part w base deadline (b .most) i asked
   pub early : limit ≤ deadline
   pub inside : limit ≤ length part
-  known : Known part w d₀ v₀ deadline m from
+  known : Known part w d₀ v₀ deadline b
 
 module _ {part : List ℕ} {w base d₀ v₀ : ℕ} {asked : Fed} where
-  pub passing-none : (limit i : ℕ) → Underway part w base d₀ v₀ i asked → limit ≡ min d₀ (length part)
-      → Passing part w base d₀ v₀ v₀ i limit i asked
-  passing-none limit i u h =
-      record { deadline = d₀; under = u; early = omega arith; inside = omega arith; known = old refl refl }
+  pub passing-none : (b : Block) (limit i : ℕ) → b .most ≡ v₀ → Underway part w base d₀ v₀ i asked
+      → limit ≡ min d₀ (length part) → Passing part w base d₀ v₀ b limit i asked
+  passing-none b limit i same u h =
+      record {
+        deadline = d₀;
+        under = rw same u;
+        early = omega arith;
+        inside = omega arith;
+        known = old same refl;
+      }
 
-  module _ {m from limit i : ℕ} (p : Passing part w base d₀ v₀ m from limit i asked) (room : i + 64 < limit) where
+  module _ {b : Block} {limit i : ℕ} (p : Passing part w base d₀ v₀ b limit i asked) (room : i + 64 < limit)
+      (n : Block) (o : BlockOf part i 64 n) where
     -- the next block has a larger byte
-    pub passing-larger : (n : ℕ) → Largest part i (i + 64) n → m < n → n < 256
-        → (limit′ : ℕ) → limit′ ≡ min (i + 1 + w) (length part)
-        → Passing part w base d₀ v₀ n i limit′ (i + 64) asked
-    passing-larger n l larger byte limit′ same =
-        let first = first-exists part i (i + 64) n (l .stands) in
+    pub passing-larger : b .most < n .most → n .most < 256 → (limit′ : ℕ)
+        → limit′ ≡ min (n .from + 1 + w) (length part) → Passing part w base d₀ v₀ n limit′ (n .to) asked
+    passing-larger larger byte limit′ same =
+        let l = o .largest in
+        let first = first-exists part (n .from) (n .to) (n .most) (l .stands) in
         let j = first .0 in
         let f = first .1 in
-        let within = first-within part i (i + 64) n j f (l .stands) in
+        let within = first-within part (n .from) (n .to) (n .most) j f (l .stands) in
         let more = rising (p .known) in
         record {
           deadline = suc j + w;
-          under = subst (λ x. Underway part w base (suc j + w) x (i + 64) asked) (f .is)
-              (rises-to (p .under) j (i + 64) (suc j + w) (f .from) within (omega arith) (omega arith)
+          under = subst (λ x. Underway part w base (suc j + w) x (n .to) asked) (f .is)
+              (rises-to (p .under) j (n .to) (suc j + w) (omega arith) within (omega arith) (omega arith)
               (omega (arith, f .is)) (omega (arith, f .is))
-              (λ q a b. omega (arith, l .most .bound q a (omega arith), f .before q a b, f .is))
-              (λ q a b. omega (arith, l .most .bound q a b, f .is)) refl);
+              (λ q a c. omega (arith, l .most .bound q (omega arith) (omega arith), f .before q (omega arith) c, f .is))
+              (λ q a c. omega (arith, l .most .bound q (omega arith) c, f .is)) refl);
           early = omega arith;
           inside = omega arith;
-          known = new j (omega arith) f refl l (omega arith);
+          known = new j (omega arith) f refl l (omega arith) (omega arith);
         }
 
     -- the next block has none
-    pub passing-on : (n : ℕ) → Largest part i (i + 64) n → n ≤ m
-        → Passing part w base d₀ v₀ m from limit (i + 64) asked
-    passing-on n l notLarger =
+    pub passing-on : n .most ≤ b .most → Passing part w base d₀ v₀ b limit (n .to) asked
+    passing-on notLarger =
         record {
           deadline = p .deadline;
-          under = passes-to (p .under) (i + 64) (omega arith) (omega arith) (omega arith)
-              (λ q a b. omega (arith, l .most .bound q a b));
+          under = passes-to (p .under) (n .to) (omega arith) (omega arith) (omega arith)
+              (λ q a c. omega (arith, o .largest .most .bound q (omega arith) c));
           early = p .early;
           inside = p .inside;
           known = p .known;
         }
 
-  module _ {m from limit i : ℕ} (p : Passing part w base d₀ v₀ m from limit i asked) where
-    by-old : (d : ℕ) → Known part w d₀ v₀ d m from → Underway part w base d m i asked → m ≡ v₀
+  module _ {b : Block} {limit i : ℕ} (p : Passing part w base d₀ v₀ b limit i asked) where
+    by-old : (d : ℕ) → Known part w d₀ v₀ d b → Underway part w base d (b .most) i asked → b .most ≤ v₀
         → Underway part w base d₀ v₀ i asked
-    by-old d (old a b) u same = subst (λ x. Underway part w base x v₀ i asked) b (subst (λ x. Underway part w base d x i asked) same u)
-    by-old d (new j a b c e f) u same = absurd (omega arith)
+    by-old d (old a e) u none =
+        subst (λ x. Underway part w base x v₀ i asked) e (subst (λ x. Underway part w base d x i asked) a u)
+    by-old d (new j a f c e g h) u none = absurd (omega arith)
 
     -- no block had a larger byte
-    pub passing-old : m ≡ v₀ → Underway part w base d₀ v₀ i asked
-    passing-old same = by-old (p .deadline) (p .known) (p .under) same
+    pub passing-old : b .most ≤ v₀ → Underway part w base d₀ v₀ i asked
+    passing-old none = by-old (p .deadline) (p .known) (p .under) none
 
     -- a block had one
     pub record Found : Type 0 where
-      pub largest : Largest part from (from + 64) m
-      pub within : from + 64 ≤ length part
-      pub place : (j : ℕ) → FirstAt part from m j → (d : ℕ) → d ≡ suc j + w → Underway part w base d m i asked
+      pub largest : Largest part (b .from) (b .to) (b .most)
+      pub whole : (b .to - b .from) % 16 ≡ 0
+      pub within : b .to ≤ length part
+      pub place : (j : ℕ) → FirstAt part (b .from) (b .most) j → (d : ℕ) → d ≡ suc j + w
+          → Underway part w base d (b .most) i asked
 
-    by-new : (d : ℕ) → Known part w d₀ v₀ d m from → Underway part w base d m i asked → (m ≡ v₀ → ⊥) → Found
-    by-new d (old a b) u other = absurd (other a)
-    by-new d (new j a b c e f) u other =
+    by-new : (d : ℕ) → Known part w d₀ v₀ d b → Underway part w base d (b .most) i asked → v₀ < b .most → Found
+    by-new d (old a e) u some = absurd (omega arith)
+    by-new d (new j a f c e g h) u some =
         record {
           largest = e;
-          within = f;
-          place = λ j′ g d′ h.
-              let same = first-unique part from m j j′ b g in
+          whole = g;
+          within = h;
+          place = λ j′ f′ d′ h′.
+              let same = first-unique part (b .from) (b .most) j j′ f f′ in
               let there : d ≡ d′ = omega arith in
-              subst (λ x. Underway part w base x m i asked) there u;
+              subst (λ x. Underway part w base x (b .most) i asked) there u;
         }
 
-    pub passing-new : (m ≡ v₀ → ⊥) → Found
-    passing-new other = by-new (p .deadline) (p .known) (p .under) other
+    pub passing-new : v₀ < b .most → Found
+    passing-new some = by-new (p .deadline) (p .known) (p .under) some

@@ -34,6 +34,12 @@ pub record NextLarger (xs : List ℕ) (a e v j : ℕ) : Type 0 where
   pub before : (q : ℕ) → a ≤ q → q < j → getD xs q 0 ≤ v
   pub larger : j < e → v < getD xs j 0
 
+-- the block of n bytes from a on, with its largest byte
+pub record BlockOf (xs : List ℕ) (a n : ℕ) (b : Block) : Type 0 where
+  pub from : b .from ≡ a
+  pub to : b .to ≡ a + n
+  pub largest : Largest xs (b .from) (b .to) (b .most)
+
 -- A block that ends after index i, at most at `end`, with its largest byte. It starts at i, or before it where fewer than 16
 -- bytes are left, and its length is a multiple of 16
 pub record Picked (xs : List ℕ) (i end : ℕ) (b : Block) : Type 0 where

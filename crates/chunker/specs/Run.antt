@@ -37,11 +37,10 @@ Going r part = InOrder part (r .window) (r .base) (r .deadline) (r .value) (r .a
 abbrev pub rest : Run → List ℕ → Fed
 rest r part = onward part (r .window) (r .base) (r .deadline) (r .value) (r .at)
 
--- a run further on in the part, before its end, with the same window and base and the same answer to come
+-- a run further on in the part, before its end, with the same window and the same answer to come
 pub record Passed (r next : Run) (part : List ℕ) : Type 0 where
   pub window : next .window ≡ r .window
-  pub base : next .base ≡ r .base
   pub on : r .at ≤ next .at
-  pub going : InOrder part (r .window) (r .base) (next .deadline) (next .value) (next .at)
-  pub gives : onward part (r .window) (r .base) (next .deadline) (next .value) (next .at) ≡ rest r part
+  pub going : Going next part
+  pub gives : rest next part ≡ rest r part
   pub inside : r .at < length part → next .at < length part

@@ -2,7 +2,7 @@
 ghost use mathlib.Core.Path.{_≡_};
 ghost use Prim.Native.Nat.{_+_, _-_, _%_, min, _≤_, _<_};
 ghost use lib.ListN.{length};
-ghost use Rattle.chunker.specs.Largest.{Stands, AtMost, Largest, FirstAt, NextLarger, Picked};
+ghost use Rattle.chunker.specs.Largest.{Stands, AtMost, Largest, FirstAt, NextLarger, BlockOf, Picked};
 
 // The bytes from `from` up to `to`, of which `most` is the largest.
 pub struct Block {
@@ -11,6 +11,7 @@ pub struct Block {
     pub most: u8,
 }
 
+// The lesser of two numbers.
 pub fn lesser(a: usize, b: usize) -> usize
     ensures { λ r. ⌜ r ≡ min a b ⌝ }
 {
@@ -35,7 +36,7 @@ fn of_16(part: &[u8], from: usize) -> u8
 }
 
 // The largest of 64 bytes.
-pub fn of_64(part: &[u8], from: usize) -> u8
+fn of_64(part: &[u8], from: usize) -> u8
     requires { ⌜ from + 64 ≤ length (now part) ⌝ }
     ensures { λ r. ⌜ Largest (now (part .entry)) from (from + 64) r ⌝ }
 {
@@ -67,6 +68,30 @@ pub fn next_larger(part: &[u8], from: usize, to: usize, value: u8) -> usize
     to
 }
 
+// The block of 16 bytes from `from` on.
+fn block_16(part: &[u8], from: usize) -> Block
+    requires { ⌜ from + 16 ≤ length (now part) ⌝ }
+    ensures { λ r. ⌜ BlockOf (now (part .entry)) from 16 r ⌝ }
+{
+    Block {
+        from,
+        to: from + 16,
+        most: of_16(part, from),
+    }
+}
+
+// The block of 64 bytes from `from` on.
+pub fn block_64(part: &[u8], from: usize) -> Block
+    requires { ⌜ from + 64 ≤ length (now part) ⌝ }
+    ensures { λ r. ⌜ BlockOf (now (part .entry)) from 64 r ⌝ }
+{
+    Block {
+        from,
+        to: from + 64,
+        most: of_64(part, from),
+    }
+}
+
 // The block of 64 bytes from `at` on, or of 16, or the last 16 bytes before `end`: the longest that
 // ends by `end`.
 pub fn pick(part: &[u8], at: usize, end: usize) -> Block
@@ -77,25 +102,12 @@ pub fn pick(part: &[u8], at: usize, end: usize) -> Block
 {
     let left = end - at;
     if 64 <= left {
-        return Block {
-            from: at,
-            to: at + 64,
-            most: of_64(part, at),
-        };
+        return block_64(part, at);
     }
     if 16 <= left {
-        return Block {
-            from: at,
-            to: at + 16,
-            most: of_16(part, at),
-        };
+        return block_16(part, at);
     }
-    let from = end - 16;
-    Block {
-        from,
-        to: end,
-        most: of_16(part, from),
-    }
+    block_16(part, end - 16)
 }
 
 // The first index of a block at which its largest byte stands: first the 16 bytes that have it,

@@ -178,71 +178,30 @@ fn by_blocks(run: Run, part: &[u8]) -> Fed
     requires { ⌜ 16 ≤ run .window ⌝ }
     ensures { λ r. ⌜ r ≡ rest run (now (part .entry)) ⌝ }
 {
-    let window = run.window;
-    let base = run.base;
-    let mut deadline = run.deadline;
-    let mut value = run.value;
-    let mut at = run.at;
-    while at < part.len() {
-        let next = by_large_blocks(
-            Run {
-                window,
-                base,
-                deadline,
-                value,
-                at,
-            },
-            part,
-        );
-        deadline = next.deadline;
-        value = next.value;
-        at = next.at;
-        let end = largest::lesser(deadline, part.len());
+    let mut run = run;
+    while run.at < part.len() {
+        run = by_large_blocks(run, part);
+        let end = largest::lesser(run.deadline, part.len());
         if end < 16 {
-            return by_bytes(
-                Run {
-                    window,
-                    base,
-                    deadline,
-                    value,
-                    at,
-                },
-                part,
-            );
+            return by_bytes(run, part);
         }
-        if end < deadline {
-            if end - at < 16 {
-                return by_bytes(
-                    Run {
-                        window,
-                        base,
-                        deadline,
-                        value,
-                        at,
-                    },
-                    part,
-                );
+        if end < run.deadline {
+            if end - run.at < 16 {
+                return by_bytes(run, part);
             }
         }
-        let block = largest::pick(part, at, end);
-        let most = block.most;
-        at = block.to;
-        if most > value {
-            value = most;
-            deadline = largest::first_of(part, block) + 1 + window;
+        let block = largest::pick(part, run.at, end);
+        run.at = block.to;
+        if block.most > run.value {
+            run.value = block.most;
+            run.deadline = largest::first_of(part, block) + 1 + run.window;
         } else {
-            if at == deadline {
-                return cut(window, at);
+            if run.at == run.deadline {
+                return cut(run.window, run.at);
             }
         }
     }
-    passed(Run {
-        window,
-        base,
-        deadline,
-        value,
-        at,
-    })
+    passed(run)
 }
 
 // Passes the blocks of 64 bytes that end before the deadline. Where the largest byte rises, its
@@ -251,45 +210,24 @@ fn by_large_blocks(run: Run, part: &[u8]) -> Run
     requires { ⌜ Going run (now part) ⌝ }
     ensures { λ r. ⌜ Passed run r (now (part .entry)) ⌝ }
 {
-    let window = run.window;
-    let base = run.base;
-    let value = run.value;
-    let mut most = value;
-    let mut from = run.at;
+    let mut best = Block {
+        from: run.at,
+        to: run.at,
+        most: run.value,
+    };
     let mut limit = largest::lesser(run.deadline, part.len());
-    let mut at = run.at;
-    while at + 64 < limit {
-        let block = largest::of_64(part, at);
-        let start = at;
-        at += 64;
-        if block > most {
-            most = block;
-            from = start;
-            limit = largest::lesser(start + 1 + window, part.len());
+    let mut next = run;
+    while next.at + 64 < limit {
+        let block = largest::block_64(part, next.at);
+        next.at = block.to;
+        if block.most > best.most {
+            best = block;
+            limit = largest::lesser(block.from + 1 + run.window, part.len());
         }
     }
-    if most == value {
-        return Run {
-            window,
-            base,
-            deadline: run.deadline,
-            value,
-            at,
-        };
+    if best.most > run.value {
+        next.value = best.most;
+        next.deadline = largest::first_of(part, best) + 1 + run.window;
     }
-    let place = largest::first_of(
-        part,
-        Block {
-            from,
-            to: from + 64,
-            most,
-        },
-    );
-    Run {
-        window,
-        base,
-        deadline: place + 1 + window,
-        value: most,
-        at,
-    }
+    next
 }

@@ -1,50 +1,47 @@
 -- `chunker::scan::by_blocks` meets its contract: each turn passes large blocks, then one more block.
-use Prim.Native.Nat.{_+_, _-_, min, _≤_, _<_}
+use Prim.Native.Nat.{ℕ, _+_, _-_, min, _≤_, _<_}
 use native.Mathlib.Omega.{arith}
 use mathlib.Core.Path.{refl, _∙_}
+use mathlib.Core.List.{List}
 use mathlib.Core.Logic.{⊎-elim}
 use borrow.Author.Needs.{needs}
 use lib.ListN.{length}
-use Rattle.chunker.specs.Run.{onward}
+use Rattle.chunker.specs.declared.Fed.{Fed}
+use Rattle.chunker.specs.declared.scan.Run.{Run}
+use Rattle.chunker.specs.Run.{rest}
 use Rattle.chunker.proofs.Underway.{Underway, stops, less-left, count-small, deadline-small}
 use Rattle.chunker.proofs.Blocks.{first-within}
 use Rattle.chunker.proofs.BlockSteps.{block-rises, block-passes, block-cuts}
 use Rattle.chunker.proofs.scan.by_blocks.Statement.{statement}
 use Rattle.chunker.proofs.scan.by_blocks.Tie as tie
 
+-- a run is under way to an answer
+abbrev To : Run → List ℕ → Fed → Type 0
+To r part asked = Underway part (r .window) (r .base) (r .deadline) (r .value) (r .at) asked
+
 abbrev Inv-loop : tie.InvT-loop
-Inv-loop part window base deadline₀ value₀ at₀ deadline value at =
-    Underway part window base deadline value at (onward part window base deadline₀ value₀ at₀)
+Inv-loop part run₀ run = (16 ≤ run .window) × To run part (rest run₀ part)
 
 abbrev μ-loop : tie.MeasureT-loop
-μ-loop part window base deadline₀ value₀ at₀ deadline value at = length part - at
+μ-loop part run₀ run = length part - run .at
 
 loop-holds : tie.Need-loop-holds Inv-loop μ-loop
-loop-holds c = record { order = c .before .pre .0; gives = refl }
+loop-holds c = (c .before .pre .1, record { order = c .before .pre .0; gives = refl })
 
 by-large-blocks-requires : tie.Need-by-large-blocks-requires Inv-loop μ-loop
-by-large-blocks-requires c κs = c .before .loop .inv .order
+by-large-blocks-requires c κs = c .before .before .loop .inv .1 .order
 
 -- after the large blocks the scan is under way as before them
 further : (c : tie.After-by-large-blocks Inv-loop μ-loop)
-    → Underway (c .before .before .before .before .args .part .now)
-    (c .before .before .before .before .args .run .window)
-    (c .before .before .before .before .args .run .base) (c .by-large-blocks .result .deadline)
-    (c .by-large-blocks .result .value) (c .by-large-blocks .result .at)
-    (onward (c .before .before .before .before .args .part .now)
-    (c .before .before .before .before .args .run .window)
-    (c .before .before .before .before .args .run .base)
-    (c .before .before .before .before .args .run .deadline)
-    (c .before .before .before .before .args .run .value)
-    (c .before .before .before .before .args .run .at))
+    → To (c .by-large-blocks .result) (c .before .before .before .before .before .args .part .now) (rest (c .before .before .before .before .before .args .run) (c .before .before .before .before .before .args .part .now))
 further c =
     let p = c .by-large-blocks .ensures in
-    record { order = p .going; gives = p .gives ∙ c .before .before .loop .inv .gives }
+    record { order = p .going; gives = p .gives ∙ c .before .before .before .loop .inv .1 .gives }
 
 -- .. and not at the part's end
 inside : (c : tie.After-by-large-blocks Inv-loop μ-loop)
-    → c .by-large-blocks .result .at < length (c .before .before .before .before .args .part .now)
-inside c = c .by-large-blocks .ensures .inside (c .before .loop-test .taken)
+    → c .by-large-blocks .result .at < length (c .before .before .before .before .before .args .part .now)
+inside c = c .by-large-blocks .ensures .inside (c .before .if1 .taken)
 
 lesser-requires : tie.Need-lesser-requires Inv-loop μ-loop
 lesser-requires c κs = search needs
@@ -55,77 +52,92 @@ by-bytes-requires c κs = further (c .before .before) .order
 returns : tie.Need-returns Inv-loop μ-loop
 returns c = c .by-bytes .ensures ∙ further (c .before .before .before) .gives
 
-sub-if3 : tie.Need-sub-if3 Inv-loop μ-loop
-sub-if3 c = omega (arith, inside (c .before .before .before))
+sub-if4 : tie.Need-sub-if4 Inv-loop μ-loop
+sub-if4 c = omega (arith, inside (c .before .before .before .before .before))
 
 by-bytes-requires-2 : tie.Need-by-bytes-requires-2 Inv-loop μ-loop
-by-bytes-requires-2 c κs = further (c .before .before .before .before) .order
+by-bytes-requires-2 c κs = further (c .before .before .before .before .before .before) .order
 
 returns-2 : tie.Need-returns-2 Inv-loop μ-loop
-returns-2 c = c .by-bytes2 .ensures ∙ further (c .before .before .before .before .before) .gives
+returns-2 c = c .by-bytes2 .ensures ∙ further (c .before .before .before .before .before .before .before) .gives
 
 -- the end is the deadline, or at least 16 bytes away
-room : (c : tie.Joined2 Inv-loop μ-loop)
-    → min (c .before .before .before .by-large-blocks .result .deadline)
-    (c .before .before .before .by-large-blocks .result .at + 16)
-    ≤ c .before .before .lesser .result
-room c = ⊎-elim (λ w. omega arith) (λ w. omega arith) (c .if2 .came)
+room : (c : tie.Joined3 Inv-loop μ-loop)
+    → min (c .before .before .before .before .by-large-blocks .result .deadline)
+    (c .before .before .before .before .by-large-blocks .result .at + 16)
+    ≤ c .before .before .before .lesser .result
+room c = ⊎-elim (λ w. omega arith) (λ w. omega arith) (c .if3 .came)
+
+-- the window still holds a block
+wide : (c : tie.Joined3 Inv-loop μ-loop) → 16 ≤ c .before .before .before .before .by-large-blocks .result .window
+wide c =
+    omega (
+      arith,
+      c .before .before .before .before .by-large-blocks .ensures .window,
+      c .before .before .before .before .before .before .before .loop .inv .0,
+    )
 
 pick-requires : tie.Need-pick-requires Inv-loop μ-loop
 pick-requires c κs =
-    omega (arith, inside (c .before .before .before), further (c .before .before .before) .order .live)
+    omega (arith, inside (c .before .before .before .before), further (c .before .before .before .before) .order .live)
 
 first-of-requires : tie.Need-first-of-requires Inv-loop μ-loop
-first-of-requires c κs = let p = c .before .pick .ensures in (p .largest, (p .whole, omega arith))
+first-of-requires c κs = let p = c .before .before .before .pick .ensures in (p .largest, (p .whole, omega arith))
 
 -- the place of the largest byte lies in the block
-place-small : (c : tie.After-first-of Inv-loop μ-loop) → c .first-of .result < c .before .before .pick .result .to
-place-small c =
-    first-within _ _ _ _ _ (c .first-of .ensures) (c .before .before .pick .ensures .largest .stands)
+place-small : (c : tie.After-first-of Inv-loop μ-loop) → c .first-of .result < c .before .before .before .before .pick .result .to
+place-small c = first-within _ _ _ _ _ (c .first-of .ensures) (c .before .before .before .before .pick .ensures .largest .stands)
 
-add-deadline : tie.Need-add-deadline Inv-loop μ-loop
-add-deadline c = omega (arith, place-small c)
+add-run : tie.Need-add-run Inv-loop μ-loop
+add-run c = omega (arith, place-small c)
 
-add-deadline-2 : tie.Need-add-deadline-2 Inv-loop μ-loop
-add-deadline-2 c = omega (arith, place-small c)
+add-run-2 : tie.Need-add-run-2 Inv-loop μ-loop
+add-run-2 c =
+    let u = further (c .before .before .before .before .before .before .before .before .before .before) in
+    omega (arith, place-small (c .before), c .before .before .before .before .before .pick .ensures .within, c .before .before .before .before .before .before .before .before .before .lesser .ensures, u .order .high, c .before .before .before .before .before .before .before .before .before .before .before .before .before .before .before .good)
 
 loop-less : tie.Need-loop-less Inv-loop μ-loop
-loop-less c = less-left _ _ _ (omega arith) (omega arith)
+loop-less c =
+    less-left _ _ _ (c .before .before .before .before .before .before .before .before .before .before .before .if1 .taken) (omega (arith, c .before .before .before .before .before .pick .ensures .on, c .before .before .before .before .before .before .before .before .before .before .by-large-blocks .ensures .on))
 
 loop-again : tie.Need-loop-again Inv-loop μ-loop
 loop-again c =
-    let joined = c .before .before .before in
-    block-rises (further (joined .before .before .before)) _ _ (c .before .before .pick .ensures) (omega arith)
-    (omega arith) (omega arith) (room joined) (c .first-of .result) _ (c .first-of .ensures) (c .before .if4 .taken)
-    (omega arith) (omega arith)
+    let joined = c .before .before .before .before .before .before in (
+      wide joined,
+      block-rises (further (c .before .before .before .before .before .before .before .before .before .before)) _ _ (c .before .before .before .before .before .pick .ensures) (wide joined) (omega arith) (omega arith) (room joined)
+          (c .before .first-of .result) _ (c .before .first-of .ensures) (c .before .before .if5 .taken) (omega arith) (omega arith),
+    )
 
 cut-requires : tie.Need-cut-requires Inv-loop μ-loop
-cut-requires c κs = omega arith
+cut-requires c κs = omega (arith, further (c .before .before .before .before .before .before .before .before .before .before) .order .high)
 
 returns-3 : tie.Need-returns-3 Inv-loop μ-loop
 returns-3 c =
-    let joined = c .before .before .before .before in
+    let joined = c .before .before .before .before .before .before .before in
     c .cut .ensures
-    ∙ block-cuts (further (joined .before .before .before)) _ _ (c .before .before .before .pick .ensures) (omega arith)
-    (omega arith) (omega arith) (room joined) (c .before .before .if4 .left) (c .before .if5 .taken)
+    ∙ block-cuts (further (c .before .before .before .before .before .before .before .before .before .before .before)) _ _ (c .before .before .before .before .before .before .pick .ensures) (wide joined) (omega arith) (omega arith) (room joined)
+    (c .before .before .before .if5 .left) (c .before .if6 .taken)
 
 loop-less-2 : tie.Need-loop-less-2 Inv-loop μ-loop
-loop-less-2 c = less-left _ _ _ (omega arith) (omega arith)
+loop-less-2 c =
+    less-left _ _ _ (c .before .before .before .before .before .before .before .before .before .before .before .if1 .taken) (omega (arith, c .before .before .before .before .before .pick .ensures .on, c .before .before .before .before .before .before .before .before .before .before .by-large-blocks .ensures .on))
 
 loop-again-2 : tie.Need-loop-again-2 Inv-loop μ-loop
 loop-again-2 c =
-    let joined = c .before .before .before in
-    let early = c .if5 .left in
-    block-passes (further (joined .before .before .before)) _ _ (c .before .before .pick .ensures) (omega arith)
-    (omega arith) (omega arith) (room joined) (c .before .if4 .left) (omega arith)
+    let joined = c .before .before .before .before .before .before in
+    let early = c .if6 .left in (
+      wide joined,
+      block-passes (further (c .before .before .before .before .before .before .before .before .before .before)) _ _ (c .before .before .before .before .before .pick .ensures) (wide joined) (omega arith) (omega arith) (room joined)
+          (c .before .before .if5 .left) (omega arith),
+    )
 
 passed-requires : tie.Need-passed-requires Inv-loop μ-loop
 passed-requires c κs =
-    let order = c .before .loop .inv .order in
+    let order = c .before .before .loop .inv .1 .order in
     omega (arith, count-small order, deadline-small order)
 
 returns-4 : tie.Need-returns-4 Inv-loop μ-loop
-returns-4 c = c .passed .ensures ∙ stops (c .before .before .loop .inv) (c .before .loop-test .left)
+returns-4 c = c .passed .ensures ∙ stops (c .before .before .before .loop .inv .1) (c .before .if1 .left)
 
 pub by-blocks-spec : {M : Type 1} → statement M
 by-blocks-spec =
@@ -138,13 +150,13 @@ by-blocks-spec =
     lesser-requires
     by-bytes-requires
     returns
-    sub-if3
+    sub-if4
     by-bytes-requires-2
     returns-2
     pick-requires
     first-of-requires
-    add-deadline
-    add-deadline-2
+    add-run
+    add-run-2
     loop-less
     loop-again
     cut-requires

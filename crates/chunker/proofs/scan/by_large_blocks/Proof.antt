@@ -1,40 +1,49 @@
 -- `chunker::scan::by_large_blocks` meets its contract: each turn passes 64 bytes.
-use Prim.Native.Nat.{_+_, _-_, _≤_, _<_}
+use Prim.Native.Nat.{ℕ, _+_, _-_, _≤_, _<_}
 use native.Mathlib.Omega.{arith}
-use mathlib.Core.Path.{refl}
+use mathlib.Core.Path.{_≡_, refl, sym, ap, subst}
 use borrow.Author.Needs.{needs}
 use lib.ListN.{length}
-use Rattle.chunker.specs.Run.{onward, Passed}
+use Rattle.chunker.specs.declared.scan.Run.{Run}
+use Rattle.chunker.specs.Run.{rest, Passed}
 use Rattle.chunker.proofs.Blocks.{first-within}
-use Rattle.chunker.proofs.Underway.{Underway}
 use Rattle.chunker.proofs.LargeBlocks.{Passing, passing-none, passing-larger, passing-on, passing-old, passing-new}
 use Rattle.chunker.proofs.scan.by_large_blocks.Statement.{statement}
 use Rattle.chunker.proofs.scan.by_large_blocks.Tie as tie
 
+-- a run whose place alone has moved
+abbrev at-place : Run → ℕ → Run
+at-place r i = record { window = r .window; base = r .base; deadline = r .deadline; value = r .value; at = i }
+
+-- a run with another largest byte and deadline
+abbrev risen : Run → ℕ → ℕ → Run
+risen r d v = record { window = r .window; base = r .base; deadline = d; value = v; at = r .at }
+
 abbrev Inv-loop : tie.InvT-loop
-Inv-loop run part window base value most₀ from₀ limit₀ at₀ most from limit at =
-    (run .at ≤ at) × (run .at < length part → at < length part)
-    × Passing part window base (run .deadline) value most from limit at
-    (onward part window base (run .deadline) value (run .at))
+Inv-loop run part best₀ limit₀ next₀ best limit next =
+    (next ≡ at-place run (next .at)) × (run .at ≤ next .at) × (run .at < length part → next .at < length part)
+    × Passing part (run .window) (run .base) (run .deadline) (run .value) best limit (next .at) (rest run part)
 
 abbrev μ-loop : tie.MeasureT-loop
-μ-loop run part window base value most₀ from₀ limit₀ at₀ most from limit at = length part - at
+μ-loop run part best₀ limit₀ next₀ best limit next = length part - next .at
 
 lesser-requires : tie.Need-lesser-requires Inv-loop μ-loop
 lesser-requires c κs = search needs
 
 loop-holds : tie.Need-loop-holds Inv-loop μ-loop
 loop-holds c =
-    (omega arith, λ h. h, passing-none _ _ (record { order = c .before .before .pre; gives = refl }) (c .lesser .ensures))
+    let start = c .before .before in (
+      refl,
+      omega arith,
+      λ h. h,
+      passing-none _ _ _ refl (record { order = start .pre; gives = refl }) (c .lesser .ensures),
+    )
 
-add-loop : tie.Need-add-loop Inv-loop μ-loop
-add-loop c = omega arith
+add-if1 : tie.Need-add-if1 Inv-loop μ-loop
+add-if1 c = omega arith
 
-of-64-requires : tie.Need-of-64-requires Inv-loop μ-loop
-of-64-requires c κs = omega arith
-
-add-at : tie.Need-add-at Inv-loop μ-loop
-add-at c = omega arith
+block-64-requires : tie.Need-block-64-requires Inv-loop μ-loop
+block-64-requires c κs = omega arith
 
 add-lesser : tie.Need-add-lesser Inv-loop μ-loop
 add-lesser c = omega arith
@@ -49,53 +58,61 @@ loop-less : tie.Need-loop-less Inv-loop μ-loop
 loop-less c = omega arith
 
 loop-again : tie.Need-loop-again Inv-loop μ-loop
-loop-again c = (
-  omega arith,
-  λ h. omega arith,
-  passing-larger (c .before .before .before .before .loop .inv .2) (omega arith) _ (c .before .before .of-64 .ensures) (c .before .if1 .taken) (omega arith) _ (c .lesser2 .ensures),
-)
+loop-again c =
+    let inv = c .before .before .before .before .before .before .before .before .before .loop .inv in
+    let block = c .before .before .before .before .before .before .block-64 in (
+      ap (λ r. at-place r (block .result .to)) (inv .0),
+      omega arith,
+      λ h. omega arith,
+      passing-larger (inv .3) (omega arith) _ (block .ensures) (c .before .before .before .if2 .taken) (omega arith) _ (c .lesser2 .ensures),
+    )
 
 loop-less-2 : tie.Need-loop-less-2 Inv-loop μ-loop
 loop-less-2 c = omega arith
 
 loop-again-2 : tie.Need-loop-again-2 Inv-loop μ-loop
 loop-again-2 c =
-    (omega arith, λ h. omega arith, passing-on (c .before .before .before .loop .inv .2) (omega arith) _ (c .before .of-64 .ensures) (c .if1 .left))
-
-returns : tie.Need-returns Inv-loop μ-loop
-returns c =
-    let inv = c .before .before .loop .inv in
-    let u = passing-old (inv .2) (c .if2 .taken) in
-    record { window = refl; base = refl; on = inv .0; going = u .order; gives = u .gives; inside = inv .1 }
-
--- where the largest byte rose, its block lies in the part
-block-inside : (c : tie.Else2 Inv-loop μ-loop) → c .before .before .loop .from + 64 ≤ length (c .before .before .before .before .before .args .part .now)
-block-inside c = passing-new (c .before .before .loop .inv .2) (c .if2 .left) .within
-
-add-t13 : tie.Need-add-t13 Inv-loop μ-loop
-add-t13 c = omega (arith, block-inside c)
+    let inv = c .before .before .before .before .before .before .loop .inv in
+    let block = c .before .before .before .block-64 in (
+      ap (λ r. at-place r (block .result .to)) (inv .0),
+      omega arith,
+      λ h. omega arith,
+      passing-on (inv .3) (omega arith) _ (block .ensures) (c .if2 .left),
+    )
 
 first-of-requires : tie.Need-first-of-requires Inv-loop μ-loop
 first-of-requires c κs =
-    let found = passing-new (c .before .before .loop .inv .2) (c .if2 .left) in
-    (found .largest, (omega arith, found .within))
+    let found = passing-new (c .before .before .before .before .before .loop .inv .3) (c .if3 .taken) in
+    (found .largest, (found .whole, found .within))
 
-add-t13-2 : tie.Need-add-t13-2 Inv-loop μ-loop
-add-t13-2 c =
-    let found = passing-new (c .before .before .before .loop .inv .2) (c .before .if2 .left) in
+add-next : tie.Need-add-next Inv-loop μ-loop
+add-next c =
+    let found = passing-new (c .before .before .before .before .before .before .loop .inv .3) (c .before .if3 .taken) in
     omega (arith, found .within, first-within _ _ _ _ _ (c .first-of .ensures) (found .largest .stands))
 
-add-t21 : tie.Need-add-t21 Inv-loop μ-loop
-add-t21 c =
-    let found = passing-new (c .before .before .before .loop .inv .2) (c .before .if2 .left) in
-    omega (arith, found .within, first-within _ _ _ _ _ (c .first-of .ensures) (found .largest .stands))
+add-next-2 : tie.Need-add-next-2 Inv-loop μ-loop
+add-next-2 c =
+    let found = passing-new (c .before .before .before .before .before .before .before .loop .inv .3) (c .before .before .if3 .taken) in
+    omega (arith, found .within, first-within _ _ _ _ _ (c .before .first-of .ensures) (found .largest .stands))
+
+returns : tie.Need-returns Inv-loop μ-loop
+returns c =
+    let run = c .before .before .before .before .before .before .before .before .before .before .args .run in
+    let inv = c .before .before .before .before .before .before .before .loop .inv in
+    let place = c .before .first-of .result in
+    let found = passing-new (inv .3) (c .before .before .if3 .taken) in
+    let u = found .place place (c .before .first-of .ensures) (place + 1 + run .window) (omega arith) in
+    subst (λ r. Passed run (risen r (place + 1 + run .window) (c .before .before .before .before .before .before .before .loop .best .most)) (c .before .before .before .before .before .before .before .before .before .before .args .part .now))
+    (sym (inv .0))
+    (record { window = refl; on = inv .1; going = u .order; gives = u .gives; inside = inv .2 })
 
 returns-2 : tie.Need-returns-2 Inv-loop μ-loop
 returns-2 c =
-    let inv = c .before .before .before .loop .inv in
-    let u = passing-new (inv .2) (c .before .if2 .left) .place (c .first-of .result) (c .first-of .ensures)
-    (c .first-of .result + 1 + c .before .before .before .before .before .before .args .run .window) (omega arith) in
-    record { window = refl; base = refl; on = inv .0; going = u .order; gives = u .gives; inside = inv .1 }
+    let run = c .before .before .before .before .before .before .before .before .args .run in
+    let inv = c .before .before .before .before .before .loop .inv in
+    let u = passing-old (inv .3) (c .if3 .left) in
+    subst (λ r. Passed run r (c .before .before .before .before .before .before .before .before .args .part .now)) (sym (inv .0))
+    (record { window = refl; on = inv .1; going = u .order; gives = u .gives; inside = inv .2 })
 
 pub by-large-blocks-spec : {M : Type 1} → statement M
 by-large-blocks-spec =
@@ -105,9 +122,8 @@ by-large-blocks-spec =
     μ-loop
     lesser-requires
     loop-holds
-    add-loop
-    of-64-requires
-    add-at
+    add-if1
+    block-64-requires
     add-lesser
     add-lesser-2
     lesser-requires-2
@@ -115,9 +131,8 @@ by-large-blocks-spec =
     loop-again
     loop-less-2
     loop-again-2
-    returns
-    add-t13
     first-of-requires
-    add-t13-2
-    add-t21
+    add-next
+    add-next-2
+    returns
     returns-2)
