@@ -37,37 +37,46 @@ chunkGround f c =
 abbrev pub written : List ℕ → ℕ → List ℕ → List ℕ
 written pool at bytes = take at pool ++ (bytes ++ drop (at + length bytes) pool)
 
--- "A piece found by the search .. is repeated", "Each number goes into the recipe"
-abbrev pub repeated : Filling → List ℕ → Filling
-repeated f c =
-    let p = f .progress in
+-- the counts with a repeated chunk of some length: "A piece found by the search .. is repeated"
+abbrev pub withRepeated : Progress → ℕ → Progress
+withRepeated p size =
     record {
-      progress = record {
-        at = record { 0 = p .at .0 + length c };
-        chunks = p .chunks;
-        filled = p .filled;
-        «recipe_length» = p .«recipe_length» + 1;
-        «new_bytes» = p .«new_bytes»;
-        «repeated_bytes» = p .«repeated_bytes» + length c;
-      };
-      pool = f .pool;
-      directory = f .directory;
-      recipe = set (f .recipe) (p .«recipe_length») (numberIn f c);
+      at = record { 0 = p .at .0 + size };
+      chunks = p .chunks;
+      filled = p .filled;
+      «recipe_length» = p .«recipe_length» + 1;
+      «new_bytes» = p .«new_bytes»;
+      «repeated_bytes» = p .«repeated_bytes» + size;
     }
 
--- "Any other is new, copied to the pool at filled and entered with the next number"
+-- the counts with a new chunk of some length: "Any other is new .. entered with the next number"
+abbrev pub withNew : Progress → ℕ → Progress
+withNew p size =
+    record {
+      at = record { 0 = p .at .0 + size };
+      chunks = record { 0 = p .chunks .0 + 1 };
+      filled = record { 0 = p .filled .0 + size };
+      «recipe_length» = p .«recipe_length» + 1;
+      «new_bytes» = p .«new_bytes» + size;
+      «repeated_bytes» = p .«repeated_bytes»;
+    }
+
+-- what a repeated chunk leaves: "Each number goes into the recipe"
+abbrev pub repeated : Filling → List ℕ → Filling
+repeated f c =
+    record {
+      progress = withRepeated (f .progress) (length c);
+      pool = f .pool;
+      directory = f .directory;
+      recipe = set (f .recipe) (f .progress .«recipe_length») (numberIn f c);
+    }
+
+-- what a new chunk leaves: "copied to the pool at filled and entered with the next number"
 abbrev pub stored : Filling → List ℕ → Filling
 stored f c =
     let p = f .progress in
     record {
-      progress = record {
-        at = record { 0 = p .at .0 + length c };
-        chunks = record { 0 = p .chunks .0 + 1 };
-        filled = record { 0 = p .filled .0 + length c };
-        «recipe_length» = p .«recipe_length» + 1;
-        «new_bytes» = p .«new_bytes» + length c;
-        «repeated_bytes» = p .«repeated_bytes»;
-      };
+      progress = withNew p (length c);
       pool = written (f .pool) (p .filled .0) c;
       directory = set (set (f .directory) (p .chunks .0 * stride) (p .filled .0)) (p .chunks .0 * stride + 1)
           (length c);

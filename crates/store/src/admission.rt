@@ -1,10 +1,10 @@
 // Admission, chunk by chunk.
 ghost use mathlib.Core.Path.{_≡_};
-ghost use Prim.Native.Nat.{_+_, _*_, _≤_};
+ghost use Prim.Native.Nat.{_+_, _*_, _^_, _≤_, _<_};
 ghost use lib.ListN.{length};
 ghost use Rattle.refusal.specs.declared.Refusal.the-variants.{Accepted};
 ghost use Rattle.chunker.specs.Chunks.{chunks};
-ghost use Rattle.store.specs.Filling.{filling, filled, step};
+ghost use Rattle.store.specs.Filling.{filling, filled, step, withRepeated, withNew};
 ghost use Rattle.store.specs.Ready.{Ready};
 ghost use Rattle.store.specs.Admission.{admissionGround, refused, counted, begun, ended};
 use crate::Admitted;
@@ -60,6 +60,56 @@ fn counted(head: Head, job_length: usize, progress: Progress) -> Admitted
     }
 }
 
+// The counts with a repeated chunk of `size` bytes.
+fn with_repeated(progress: Progress, size: u32) -> Progress
+    requires { ⌜ progress .at .0 + size < 2 ^ 32 ⌝ }
+    requires { ⌜ progress .«recipe_length» + 1 < 2 ^ 32 ⌝ }
+    requires { ⌜ progress .«repeated_bytes» + size < 2 ^ 32 ⌝ }
+    ensures { λ r. ⌜ r ≡ withRepeated progress size ⌝ }
+{
+    let at = progress.at;
+    let chunks = progress.chunks;
+    let filled = progress.filled;
+    Progress {
+        at: JobPosition(at.0 + size),
+        chunks,
+        filled,
+        recipe_length: progress.recipe_length + 1,
+        new_bytes: progress.new_bytes,
+        repeated_bytes: progress.repeated_bytes + size,
+    }
+}
+
+// The counts with a new chunk of `size` bytes.
+fn with_new(progress: Progress, size: u32) -> Progress
+    requires { ⌜ progress .at .0 + size < 2 ^ 32 ⌝ }
+    requires { ⌜ progress .chunks .0 + 1 < 2 ^ 32 ⌝ }
+    requires { ⌜ progress .filled .0 + size < 2 ^ 32 ⌝ }
+    requires { ⌜ progress .«recipe_length» + 1 < 2 ^ 32 ⌝ }
+    requires { ⌜ progress .«new_bytes» + size < 2 ^ 32 ⌝ }
+    ensures { λ r. ⌜ r ≡ withNew progress size ⌝ }
+{
+    let at = progress.at;
+    let chunks = progress.chunks;
+    let filled = progress.filled;
+    Progress {
+        at: JobPosition(at.0 + size),
+        chunks: ChunkNumber(chunks.0 + 1),
+        filled: PoolOffset(filled.0 + size),
+        recipe_length: progress.recipe_length + 1,
+        new_bytes: progress.new_bytes + size,
+        repeated_bytes: progress.repeated_bytes,
+    }
+}
+
+// What a chunk came to, and the counts after it.
+fn outcome(refusal: Refusal, progress: Progress) -> Step
+    ensures { λ r. ⌜ r .refusal ≡ refusal ⌝ }
+    ensures { λ r. ⌜ r .progress ≡ progress ⌝ }
+{
+    Step { refusal, progress }
+}
+
 // One chunk: found, it is repeated; any other is new. Refused by grounds 6 to 8, with nothing written.
 fn admit_chunk(
     progress: Progress,
@@ -75,55 +125,25 @@ fn admit_chunk(
     let used = progress.recipe_length as usize;
     let chunks = progress.chunks;
     let filled = progress.filled;
-    let at = progress.at;
     let size = chunk.len() as u32;
     if recipe.len() <= used {
-        return Step {
-            refusal: Refusal::RecipeFull,
-            progress,
-        };
+        return outcome(Refusal::RecipeFull, progress);
     }
     let number = memory::search(pool, directory, chunks, chunk);
     if number.0 < chunks.0 {
         recipe[used] = number.0;
-        return Step {
-            refusal: Refusal::Accepted,
-            progress: Progress {
-                at: JobPosition(at.0 + size),
-                chunks,
-                filled,
-                recipe_length: progress.recipe_length + 1,
-                new_bytes: progress.new_bytes,
-                repeated_bytes: progress.repeated_bytes + size,
-            },
-        };
+        return outcome(Refusal::Accepted, with_repeated(progress, size));
     }
     if directory.len() / 2 <= chunks.0 as usize {
-        return Step {
-            refusal: Refusal::DirectoryFull,
-            progress,
-        };
+        return outcome(Refusal::DirectoryFull, progress);
     }
     if pool.len() - (filled.0 as usize) < chunk.len() {
-        return Step {
-            refusal: Refusal::PoolFull,
-            progress,
-        };
+        return outcome(Refusal::PoolFull, progress);
     }
     memory::copy(pool, filled, chunk);
     memory::enter(directory, chunks, filled, size);
     recipe[used] = chunks.0;
-    Step {
-        refusal: Refusal::Accepted,
-        progress: Progress {
-            at: JobPosition(at.0 + size),
-            chunks: ChunkNumber(chunks.0 + 1),
-            filled: PoolOffset(filled.0 + size),
-            recipe_length: progress.recipe_length + 1,
-            new_bytes: progress.new_bytes + size,
-            repeated_bytes: progress.repeated_bytes,
-        },
-    }
+    outcome(Refusal::Accepted, with_new(progress, size))
 }
 
 // Admits a job on which none of the grounds 1 and 3 to 5 holds: its chunks in order, each found by a
