@@ -145,6 +145,33 @@ pub fed-accepted : (s : Scanner) (part : List ℕ) → groundOf s ≡ Accepted �
 unfolding fed
 fed-accepted s part e = rw e
 
+-- any other is handed back
+pub fed-refused : (s : Scanner) (part : List ℕ) → accepted (groundOf s) ≡ false
+    → fed s part ≡ record { refusal = groundOf s; scanner = s; consumed = 0; cut = false }
+unfolding fed
+fed-refused s part e = rw e
+
+-- reading a part finds no ground
+scan-accepted : (s : Scanner) (n : ℕ) (xs : List ℕ) → scan s n xs .refusal ≡ Accepted
+unfolding scan
+scan-accepted s n [] = refl
+scan-accepted s n (b ∷ bs) = by-move (move s b) _ _ refl (scan-accepted (next s b) (suc n) bs)
+  where
+    by-move : (m : Move) (x y : Fed) → x .refusal ≡ Accepted → y .refusal ≡ Accepted
+        → stopAtCut m x y .refusal ≡ Accepted
+    by-move Rise x y h k = k
+    by-move Hold x y h k = k
+    by-move Cut x y h k = h
+
+-- feeding reports the scanner's ground
+pub fed-ground : (s : Scanner) (part : List ℕ) → fed s part .refusal ≡ groundOf s
+fed-ground s part = by-test (accepted (groundOf s)) refl
+  where
+    by-test : (t : Bool) → accepted (groundOf s) ≡ t → fed s part .refusal ≡ groundOf s
+    by-test true e =
+        let g = accepted-ground s e in rw (fed-accepted s part g, g) (scan-accepted s 0 part)
+    by-test false e = rw (fed-refused s part e)
+
 -- a scanner that feeding answers with is accepted again
 pub feed-keeps-sound : (s : Scanner) (part : List ℕ) → s .value < 256 → Bytes part → groundOf s ≡ Accepted
     → groundOf (fed s part .scanner) ≡ Accepted

@@ -1,8 +1,9 @@
 -- Looking at a chunk in the pool.
-use Prim.Native.Nat.{ℕ}
+use Prim.Native.Nat.{ℕ, _+_, _*_}
 use mathlib.Core.Bool.{cond}
 use mathlib.Core.List.{List, []}
-use lib.Dec.{ltb}
+use lib.Dec.{leb, ltb}
+use lib.ListN.{length}
 use Rattle.refusal.specs.Number.{accepted}
 use Rattle.refusal.specs.declared.Refusal.{Refusal}
 use Rattle.refusal.specs.declared.Refusal.the-variants.{Accepted, Window, MemoryLimit, Head as HeadMisfit}
@@ -10,7 +11,8 @@ use Rattle.refusal.specs.declared.Refusal.the-variants.{ChunkNumber as NoChunk}
 use Rattle.chunker.specs.Scanner.{windowAllowed}
 use Rattle.store.specs.declared.Head.{Head}
 use Rattle.store.specs.declared.ChunkNumber.{ChunkNumber}
-use Rattle.store.specs.Directory.{fits, storeAllowed}
+use Rattle.store.specs.declared.Stretch.{Stretch}
+use Rattle.store.specs.Directory.{stride, offsetAt, lengthAt, fits, storeAllowed}
 use Rattle.store.specs.Contents.{chunkAt}
 
 -- the first of the grounds 1, 4 and 5 that holds of a store
@@ -25,6 +27,13 @@ unfoldable pub lookGround : Head → List ℕ → List ℕ → ChunkNumber → R
 lookGround head pool directory number =
     let ground = storeGround head pool directory in
     cond (accepted ground) (cond (ltb (number .0) (head .chunks .0)) Accepted NoChunk) ground
+
+-- "two an entry: offset in the pool from 0, and length"; zeros where a directory has no such entry
+unfoldable pub stretchOf : List ℕ → ℕ → Stretch
+stretchOf directory i =
+    cond (leb (length directory) (i * stride + 1))
+    (record { offset = record { 0 = 0 }; length = 0 })
+    (record { offset = record { 0 = offsetAt directory i }; length = lengthAt directory i })
 
 -- "the answer is the piece's own stretch of the pool", "A refused look shows the empty stretch"
 unfoldable pub shown : Head → List ℕ → List ℕ → ChunkNumber → List ℕ

@@ -2,7 +2,7 @@
 ghost use mathlib.Core.Path.{_≡_};
 ghost use Rattle.store.specs.Admission.{opened, admitted};
 ghost use Rattle.store.specs.Contents.{chunkAt};
-ghost use Rattle.store.specs.Looking.{storeGround, lookGround, shown};
+ghost use Rattle.store.specs.Looking.{storeGround, lookGround, stretchOf, shown};
 
 mod admission;
 mod grounds;
@@ -40,6 +40,12 @@ pub struct Admitted {
     pub new_bytes: u32,
     pub repeated_bytes: u32,
     pub saving: i64,
+}
+
+// A stretch of the pool: where it starts and how many bytes it has.
+pub struct Stretch {
+    pub offset: PoolOffset,
+    pub length: u32,
 }
 
 // An admission under way: the next job position, chunk number and pool offset, and what is counted
@@ -120,6 +126,24 @@ pub fn look_refusal(head: Head, pool: &[u8], directory: &[u32], number: ChunkNum
         return Refusal::Accepted;
     }
     Refusal::ChunkNumber
+}
+
+// Where a number's entry says that its bytes are, for a caller that has tested the grounds; zeros
+// where the directory has no such entry.
+pub fn stretch_of(directory: &[u32], number: ChunkNumber) -> Stretch
+    ensures { λ r. ⌜ r ≡ stretchOf (now (directory .entry)) (number .0) ⌝ }
+{
+    let at = number.0 as usize * 2;
+    if directory.len() <= at + 1 {
+        return Stretch {
+            offset: PoolOffset(0),
+            length: 0,
+        };
+    }
+    Stretch {
+        offset: PoolOffset(directory[at]),
+        length: directory[at + 1],
+    }
 }
 
 // A chunk's own stretch of the pool; the empty stretch where the look is refused.

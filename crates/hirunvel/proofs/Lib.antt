@@ -1,0 +1,5 @@
+pub mod Counting
+pub mod Windows
+pub mod Scanners
+pub mod Outcomes
+pub mod Stretches

@@ -1,0 +1,30 @@
+-- `hirunvel::rebuilding::hirunvel_rebuild` meets its contract.
+use mathlib.Core.Path.{_≡_, ap, _∙_}
+use mathlib.Core.List.{[], _∷_}
+use borrow.Author.Needs.{needs}
+use Rattle.refusal.specs.Number.{numberOf}
+use Rattle.hirunvel.specs.Storing.{jobRebuilt}
+use Rattle.hirunvel.proofs.rebuilding.hirunvel_rebuild.Statement.{statement}
+use Rattle.hirunvel.proofs.rebuilding.hirunvel_rebuild.Tie as tie
+
+head-of-requires : tie.Need-head-of-requires
+head-of-requires c κs = search needs
+
+rebuild-requires : tie.Need-rebuild-requires
+rebuild-requires c κs = search needs
+
+of-requires : tie.Need-of-requires
+of-requires c κs = search needs
+
+same-length : tie.Need-same-length
+same-length c = search needs
+
+returns : tie.Need-returns
+unfolding jobRebuilt
+returns c =
+    let done = rw (c .before .before .before .before .before .before .head-of .ensures) at (c .before .before .before .before .rebuild .ensures) in
+    (c .of .ensures ∙ ap (λ a. numberOf (a .refusal)) (done .0), (done .1, ap (λ a. a .written ∷ []) (done .0)))
+
+pub hirunvel-rebuild-spec : {M : Type 1} → statement M
+hirunvel-rebuild-spec =
+    tie.close (tie.spec head-of-requires rebuild-requires of-requires same-length returns)

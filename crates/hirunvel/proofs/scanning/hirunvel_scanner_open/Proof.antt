@@ -1,0 +1,26 @@
+-- `hirunvel::scanning::hirunvel_scanner_open` meets its contract.
+use mathlib.Core.Path.{_≡_, ap, _∙_}
+use borrow.Author.Needs.{needs}
+use Rattle.refusal.specs.Number.{numberOf}
+use Rattle.hirunvel.specs.Scanning.{numbersOf, scannerOpened}
+use Rattle.hirunvel.proofs.scanning.hirunvel_scanner_open.Statement.{statement}
+use Rattle.hirunvel.proofs.scanning.hirunvel_scanner_open.Tie as tie
+
+open-requires : tie.Need-open-requires
+open-requires c κs = search needs
+
+numbers-of-requires : tie.Need-numbers-of-requires
+numbers-of-requires c κs = search needs
+
+of-requires : tie.Need-of-requires
+of-requires c κs = search needs
+
+returns : tie.Need-returns
+unfolding scannerOpened
+returns c =
+    let opening = c .before .before .«open» .ensures in
+    (c .of .ensures ∙ ap (λ o. numberOf (o .refusal)) opening, c .before .numbers-of .ensures ∙ ap (λ o. numbersOf (o .scanner)) opening)
+
+pub hirunvel-scanner-open-spec : {M : Type 1} → statement M
+hirunvel-scanner-open-spec =
+    tie.close (tie.spec open-requires numbers-of-requires of-requires returns)

@@ -1,0 +1,37 @@
+-- `hirunvel::scanning::no_byte` meets its contract.
+use mathlib.Core.Path.{_≡_, ap, _∙_}
+use borrow.Author.Needs.{needs}
+use Rattle.refusal.specs.Number.{numberOf}
+use Rattle.hirunvel.proofs.Windows.{opened-ground, opened-accepted}
+use Rattle.hirunvel.proofs.scanning.no_byte.Statement.{statement}
+use Rattle.hirunvel.proofs.scanning.no_byte.Tie as tie
+
+open-requires : tie.Need-open-requires
+open-requires c κs = search needs
+
+accepted-requires : tie.Need-accepted-requires
+accepted-requires c κs = search needs
+
+of-requires : tie.Need-of-requires
+of-requires c κs = search needs
+
+returns : tie.Need-returns
+returns c =
+    let opening = c .before .before .before .«open» .ensures in
+    let test = opened-accepted _ opening (c .before .before .accepted .ensures) ∙ c .before .if1 .taken in
+    rw test (c .of .ensures)
+
+of-requires-2 : tie.Need-of-requires-2
+of-requires-2 c κs = search needs
+
+returns-2 : tie.Need-returns-2
+returns-2 c =
+    let opening = c .before .before .before .«open» .ensures in
+    let test = opened-accepted _ opening (c .before .before .accepted .ensures) ∙ c .before .if1 .left in
+    let ground = ap (λ o. o .refusal) opening ∙ opened-ground _ in
+    rw test (c .of2 .ensures ∙ ap numberOf (rw test at ground))
+
+pub no-byte-spec : {M : Type 1} → statement M
+no-byte-spec =
+    tie.close
+    (tie.spec open-requires accepted-requires of-requires returns of-requires-2 returns-2)

@@ -1,0 +1,3 @@
+pub mod ChunkCount
+pub mod Scanning
+pub mod Storing

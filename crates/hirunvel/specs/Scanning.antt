@@ -1,0 +1,76 @@
+-- The scanner's functions over numbers.
+use Prim.Native.Nat.{ℕ}
+use mathlib.Core.Bool.{Bool, true, false, cond}
+use mathlib.Core.List.{List, [], _∷_}
+use lib.Dec.{ltb}
+use lib.ListN.{getD}
+use Rattle.refusal.specs.Number.{numberOf, accepted}
+use Rattle.refusal.specs.declared.Refusal.{Refusal}
+use Rattle.refusal.specs.declared.Refusal.the-variants.{Window, Unsound}
+use Rattle.chunker.specs.declared.Scanner.{Scanner}
+use Rattle.chunker.specs.declared.Opened.{Opened}
+use Rattle.chunker.specs.declared.Fed.{Fed}
+use Rattle.chunker.specs.declared.Finished.{Finished}
+use Rattle.chunker.specs.Scanner.{windowAllowed, groundOf}
+use Rattle.chunker.specs.Answers.{opened, fed, finished}
+
+-- "window, bytes since the last cut (count), place of the largest byte so far (first on a tie) and its value"
+abbrev pub numbersOf : Scanner → List ℕ
+numbersOf s = s .window ∷ s .count ∷ s .place ∷ s .value ∷ []
+
+-- the scanner of four numbers
+abbrev pub scannerOf : List ℕ → Scanner
+scannerOf n = record { window = getD n 0 0; count = getD n 1 0; place = getD n 2 0; value = getD n 3 0 }
+
+-- the first of the grounds 1 and 2 that holds of a scanner whose value is no byte, which is not sound
+abbrev pub noByteGround : ℕ → Refusal
+noByteGround w = cond (windowAllowed w) Unsound Window
+
+-- "feeding and finishing 1 and 2": the first that holds of four numbers; "its value, a byte"
+unfoldable pub scannerGround : List ℕ → Refusal
+scannerGround n =
+    let ground = groundOf (scannerOf n) in
+    cond (ltb 255 (getD n 3 0)) (noByteGround (getD n 0 0)) ground
+
+-- what an opening answers and writes
+pub record ScannerOpening : Type 0 where
+  pub refusal : ℕ
+  pub scanner : List ℕ
+
+-- "A refused opening gives all zeros"
+unfoldable pub scannerOpened : ℕ → ScannerOpening
+scannerOpened w = record { refusal = numberOf (opened w .refusal); scanner = numbersOf (opened w .scanner) }
+
+-- what a feed answers and writes
+pub record ScannerFeeding : Type 0 where
+  pub refusal : ℕ
+  pub scanner : List ℕ
+  pub fed : List ℕ
+
+-- "The answer says how many bytes were consumed and whether a cut follows": 1 where it does
+abbrev pub told : Fed → List ℕ
+told f = f .consumed ∷ cond (f .cut) 1 0 ∷ []
+
+-- "A refused feed hands the scanner back, consumes 0 and reports no cut"
+unfoldable pub scannerFed : List ℕ → List ℕ → ScannerFeeding
+scannerFed n part =
+    let ground = scannerGround n in
+    let f = fed (scannerOf n) part in
+    cond (accepted ground)
+    (record { refusal = numberOf ground; scanner = numbersOf (f .scanner); fed = told f })
+    (record { refusal = numberOf ground; scanner = n; fed = 0 ∷ 0 ∷ [] })
+
+-- what a finish answers and writes
+pub record ScannerFinishing : Type 0 where
+  pub refusal : ℕ
+  pub scanner : List ℕ
+  pub count : ℕ
+
+-- "Finishing tells the count", "A refused finish tells 0 and hands the scanner back"
+unfoldable pub scannerFinished : List ℕ → ScannerFinishing
+scannerFinished n =
+    let ground = scannerGround n in
+    let f = finished (scannerOf n) in
+    cond (accepted ground)
+    (record { refusal = numberOf ground; scanner = numbersOf (f .scanner); count = f .count })
+    (record { refusal = numberOf ground; scanner = n; count = 0 })

@@ -1,0 +1,89 @@
+-- The store's functions, and rebuilding, over numbers.
+use Prim.Native.Nat.{ℕ}
+use mathlib.Core.Bool.{Bool, true, false, cond}
+use mathlib.Core.List.{List, [], _∷_}
+use lib.IntN.{ℤ}
+use lib.ListN.{getD}
+use Rattle.refusal.specs.Number.{numberOf, accepted}
+use Rattle.refusal.specs.declared.Refusal.{Refusal}
+use Rattle.store.specs.declared.Head.{Head}
+use Rattle.store.specs.declared.Opened.{Opened}
+use Rattle.store.specs.declared.Admitted.{Admitted}
+use Rattle.store.specs.declared.ChunkNumber.{ChunkNumber}
+use Rattle.store.specs.Directory.{offsetAt, lengthAt}
+use Rattle.store.specs.Admission.{Admission, opened, admitted}
+use Rattle.store.specs.Looking.{lookGround}
+use Rattle.rebuild.specs.declared.Rebuilt.{Rebuilt}
+use Rattle.rebuild.specs.Rebuilding.{Rebuilding, rebuilt}
+
+-- "a head of three numbers (window, pieces, filled)"
+abbrev pub headOf : List ℕ → Head
+headOf n =
+    record { window = getD n 0 0; chunks = record { 0 = getD n 1 0 }; filled = record { 0 = getD n 2 0 } }
+
+-- a head's three numbers
+abbrev pub headNumbers : Head → List ℕ
+headNumbers h = h .window ∷ h .chunks .0 ∷ h .filled .0 ∷ []
+
+-- what an opening answers and writes
+pub record StoreOpening : Type 0 where
+  pub refusal : ℕ
+  pub head : List ℕ
+
+-- "A refused opening gives all zeros"
+unfoldable pub storeOpened : ℕ → StoreOpening
+storeOpened w = record { refusal = numberOf (opened w .refusal); head = headNumbers (opened w .head) }
+
+-- what an admission answers, and how it leaves the memory that it was lent
+pub record StoreAdmission : Type 0 where
+  pub refusal : ℕ
+  pub head : List ℕ
+  pub pool : List ℕ
+  pub directory : List ℕ
+  pub recipe : List ℕ
+  pub counts : List ℕ
+  pub saving : List ℤ
+
+-- "A refused admission hands the head back unchanged"
+abbrev pub headAfter : List ℕ → Admitted → List ℕ
+headAfter n a = cond (accepted (a .refusal)) (headNumbers (a .head)) n
+
+-- "The result has the new head, recipe length, new bytes, repeated bytes, and the saving", ".. and all counts as 0" where
+-- the admission is refused
+unfoldable pub storeAdmitted : List ℕ → List ℕ → List ℕ → List ℕ → List ℕ → StoreAdmission
+storeAdmitted n pool directory recipe job =
+    let a = admitted (headOf n) pool directory recipe job in
+    record {
+      refusal = numberOf (a .answer .refusal);
+      head = headAfter n (a .answer);
+      pool = a .pool;
+      directory = a .directory;
+      recipe = a .recipe;
+      counts = a .answer .«recipe_length» ∷ a .answer .«new_bytes» ∷ a .answer .«repeated_bytes» ∷ [];
+      saving = a .answer .saving ∷ [];
+    }
+
+-- what a look answers and writes
+pub record StoreLook : Type 0 where
+  pub refusal : ℕ
+  pub stretch : List ℕ
+
+-- "the answer is the piece's own stretch of the pool": its offset and length; "A refused look shows the empty stretch"
+unfoldable pub storeLooked : List ℕ → List ℕ → List ℕ → ℕ → StoreLook
+storeLooked n pool directory number =
+    let ground = lookGround (headOf n) pool directory (record { 0 = number }) in
+    cond (accepted ground)
+    (record { refusal = numberOf ground; stretch = offsetAt directory number ∷ lengthAt directory number ∷ [] })
+    (record { refusal = numberOf ground; stretch = 0 ∷ 0 ∷ [] })
+
+-- what a rebuilding answers and writes
+pub record JobRebuilding : Type 0 where
+  pub refusal : ℕ
+  pub output : List ℕ
+  pub written : List ℕ
+
+-- "A refused rebuilding leaves the output untouched"
+unfoldable pub jobRebuilt : List ℕ → List ℕ → List ℕ → List ℕ → List ℕ → JobRebuilding
+jobRebuilt n pool directory recipe output =
+    let r = rebuilt (headOf n) pool directory recipe output in
+    record { refusal = numberOf (r .answer .refusal); output = r .output; written = r .answer .written ∷ [] }
