@@ -1,3 +1,2 @@
-pub mod ChunkCount
 pub mod Scanning
 pub mod Storing

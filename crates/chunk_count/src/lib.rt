@@ -1,7 +1,7 @@
 // The number of chunks of a job, with which a window is chosen and the chunker is measured from
 // outside.
 ghost use mathlib.Core.Path.{_≡_};
-ghost use Rattle.hirunvel.specs.ChunkCount.{chunkCount};
+ghost use Rattle.chunk_count.specs.ChunkCount.{chunkCount};
 
 // The number of chunks of a job, one feed for each chunk; 0 where the window is refused.
 #[no_mangle]

@@ -2,17 +2,29 @@
 use Prim.Native.Nat.{ℕ, _+_, _-_, _≤_, _<_}
 use native.Mathlib.Omega.{arith}
 use native.Mathlib.Nat.{zero-add}
-use mathlib.Core.Path.{_≡_, ap}
-use mathlib.Core.Bool.{true}
+use mathlib.Core.Path.{_≡_, refl, ap, sym}
+use mathlib.Core.Bool.{Bool, true, false}
 use mathlib.Core.List.{List}
 use lib.ListN.{length, take, drop, length-drop}
 use lib.Seq.{take-all, drop-drop, drop-length}
+use Rattle.refusal.specs.Number.{accepted}
+use Rattle.chunker.specs.declared.Opened.{Opened}
 use Rattle.chunker.specs.declared.Fed.{Fed}
 use Rattle.chunker.specs.Scanner.{windowAllowed, fresh}
-use Rattle.chunker.specs.Answers.{fed}
+use Rattle.chunker.specs.Answers.{opened, fed}
 use Rattle.chunker.specs.Chunks.{chunks}
 use Rattle.chunker.proofs.NextChunk.{NextChunk, next-chunk, no-chunks}
-use Rattle.hirunvel.specs.ChunkCount.{chunkCount}
+use Rattle.chunk_count.specs.ChunkCount.{chunkCount}
+
+-- the test of a window decides
+by-test : (w : ℕ) (t : Bool) → windowAllowed w ≡ t → accepted (opened w .refusal) ≡ t
+unfolding opened
+by-test w true e = rw e
+by-test w false e = rw e
+
+-- the answer to an opening is accepted where the window is allowed
+pub opened-accepted : (w : ℕ) {o : Opened} {t : Bool} → o ≡ opened w → t ≡ accepted (o .refusal) → windowAllowed w ≡ t
+opened-accepted w e h = rw (h, e) (sym (by-test w (windowAllowed w) refl))
 
 -- After n chunks, which are the first `at` bytes of the job
 pub record Counted (w : ℕ) (job : List ℕ) (n at : ℕ) : Type 0 where

@@ -1,4 +1,4 @@
--- `hirunvel::chunk_count::hirunvel_chunk_count` meets its contract. Each turn takes one chunk.
+-- `chunk_count::hirunvel_chunk_count` meets its contract. Each turn takes one chunk.
 use Prim.Native.Nat.{_-_}
 use native.Mathlib.Omega.{arith}
 use mathlib.Core.Path.{_≡_, ap, _∙_}
@@ -7,11 +7,10 @@ use borrow.Author.Tests.{not-true, not-false}
 use lib.ListN.{length}
 use Rattle.chunker.specs.Scanner.{fresh}
 use Rattle.chunker.proofs.Soundness.{opened-fresh}
-use Rattle.hirunvel.specs.ChunkCount.{chunkCount}
-use Rattle.hirunvel.proofs.Windows.{opened-accepted}
-use Rattle.hirunvel.proofs.Counting.{Counted, Turned, sets-out, counts-one, stops}
-use Rattle.hirunvel.proofs.chunk_count.hirunvel_chunk_count.Statement.{statement}
-use Rattle.hirunvel.proofs.chunk_count.hirunvel_chunk_count.Tie as tie
+use Rattle.chunk_count.specs.ChunkCount.{chunkCount}
+use Rattle.chunk_count.proofs.Counting.{opened-accepted, Counted, Turned, sets-out, counts-one, stops}
+use Rattle.chunk_count.proofs.hirunvel_chunk_count.Statement.{statement}
+use Rattle.chunk_count.proofs.hirunvel_chunk_count.Tie as tie
 
 abbrev Inv-loop : tie.InvT-loop
 Inv-loop window job scanner n₀ at₀ n at = (scanner ≡ fresh window) × Counted window job n at
