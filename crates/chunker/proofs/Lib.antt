@@ -4,6 +4,7 @@ pub mod Soundness
 pub mod Reached
 pub mod FirstCut
 pub mod NextChunk
+pub mod Opening
 pub mod ChunkSizes
 pub mod EverySplitting
 pub mod Tracking
@@ -16,5 +17,6 @@ pub mod EqualTail
 pub mod Blocks
 pub mod Scanning
 pub mod Underway
+pub mod ScanEnds
 pub mod BlockSteps
 pub mod LargeBlocks

@@ -6,7 +6,7 @@ use mathlib.Core.Path.{_≡_, refl, _∙_}
 use mathlib.Core.Bool.{Bool, true, false, cond, _||_, and-eq-true-iff}
 use mathlib.Core.List.{List, [], _∷_, _++_}
 use lib.Dec.{leb}
-use lib.ListN.{drop}
+use lib.ListN.{getD, drop}
 use borrow.Author.Tests.{leb-true, ltb-true, eqb-true, le-leb, lt-ltb, eq-eqb, ne-eqb}
 use Rattle.refusal.specs.declared.Refusal.the-variants.{Accepted, Window, Unsound}
 use Rattle.refusal.specs.Number.{accepted}
@@ -108,6 +108,11 @@ module _ (s : Scanner) (b : ℕ) (small : b < 256) (h : Sound s) where
   unfolding next
   next-sound = by-move (facts s b)
 
+-- a list whose every member is below 256 is of bytes
+pub all-bytes : (xs : List ℕ) → ((i : ℕ) → getD xs i 0 < 256) → Bytes xs
+all-bytes [] h = tt
+all-bytes (b ∷ bs) h = (h 0, all-bytes bs (λ i. h (suc i)))
+
 pub bytes-append : (x y : List ℕ) → Bytes x → Bytes y → Bytes (x ++ y)
 bytes-append [] y k l = l
 bytes-append (b ∷ x) y k l = (k .0, bytes-append x y (k .1) l)
@@ -190,7 +195,15 @@ pub opened-fresh : (w : ℕ) → windowAllowed w ≡ true → opened w .scanner 
 unfolding opened
 opened-fresh w e = rw e
 
+-- a fresh scanner is accepted where its window is allowed
+pub fresh-ground : (w : ℕ) → windowAllowed w ≡ true → groundOf (fresh w) ≡ Accepted
+fresh-ground w e = let k = window-bounds w e in sound-ground (fresh w) (fresh-sound w (k .0) (k .1))
+
+-- and else refused
+pub fresh-refused : (w : ℕ) → windowAllowed w ≡ false → accepted (groundOf (fresh w)) ≡ false
+unfolding groundOf
+fresh-refused w e = rw e
+
 -- an opened scanner is accepted
 pub open-sound : (w : ℕ) → windowAllowed w ≡ true → groundOf (opened w .scanner) ≡ Accepted
-open-sound w e =
-    let k = window-bounds w e in rw (opened-fresh w e) (sound-ground (fresh w) (fresh-sound w (k .0) (k .1)))
+open-sound w e = rw (opened-fresh w e) (fresh-ground w e)

@@ -1,12 +1,14 @@
 -- A scan under way over a part: its numbers, and what the rest of the part gives.
 use Prim.Native.Nat.{ℕ, _+_, _-_, _*_, _≤_, _<_}
 use mathlib.Core.Path.{_≡_}
+use mathlib.Core.Bool.{true}
 use mathlib.Core.List.{List}
 use lib.ListN.{length, getD, drop}
 use Rattle.chunker.specs.declared.Scanner.{Scanner}
 use Rattle.chunker.specs.declared.Fed.{Fed}
 use Rattle.chunker.specs.declared.scan.Run.{Run}
-use Rattle.chunker.specs.Answers.{scan}
+use Rattle.chunker.specs.Scanner.{fresh}
+use Rattle.chunker.specs.Answers.{consumed, scan}
 
 -- the scanner after i bytes of a part, of whose open chunk `base` bytes came before the part: its place is w before the
 -- deadline d, the number of bytes of the part after which the chunk ends if no larger byte comes
@@ -37,10 +39,28 @@ Going r part = InOrder part (r .window) (r .base) (r .deadline) (r .value) (r .a
 abbrev pub rest : Run → List ℕ → Fed
 rest r part = onward part (r .window) (r .base) (r .deadline) (r .value) (r .at)
 
--- a run further on in the part, before its end, with the same window and the same answer to come
+-- a run further on in the part, with the same window and the same answer to come
+pub record Further (r next : Run) (part : List ℕ) : Type 0 where
+  pub window : next .window ≡ r .window
+  pub going : Going next part
+  pub gives : rest next part ≡ rest r part
+
+-- the same, before the part's end
 pub record Passed (r next : Run) (part : List ℕ) : Type 0 where
   pub window : next .window ≡ r .window
   pub on : r .at ≤ next .at
   pub going : Going next part
   pub gives : rest next part ≡ rest r part
   pub inside : r .at < length part → next .at < length part
+
+-- a run that sets out on a part, with the answer that the scanner gives
+pub record Begun (s : Scanner) (r : Run) (part : List ℕ) : Type 0 where
+  pub window : r .window ≡ s .window
+  pub going : Going r part
+  pub gives : rest r part ≡ scan s 0 part
+
+-- a run at the end of the chunk, or at a place from which the chunk cannot end in the part
+pub record Reached (r next : Run) (part : List ℕ) : Type 0 where
+  pub window : next .window ≡ r .window
+  pub cut : next .at ≡ next .deadline → consumed (fresh (r .window)) (next .at) true ≡ rest r part
+  pub uncut : (next .at ≡ next .deadline → ⊥) → Further r next part × (length part < next .deadline)

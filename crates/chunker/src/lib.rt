@@ -84,6 +84,20 @@ pub fn feed(scanner: Scanner, part: &[u8]) -> Fed
     scan::scan(scanner, part)
 }
 
+// The length of the first chunk of a job, whose last chunk no cut need end; 0 where the job is empty
+// or ground 1 holds.
+pub fn next_chunk(window: u32, job: &[u8]) -> usize
+    ensures { λ r. ⌜ r ≡ fed (fresh window) (now (job .entry)) .consumed ⌝ }
+{
+    if !ground::window_allowed(window) {
+        return 0;
+    }
+    if job.len() == 0 {
+        return 0;
+    }
+    scan::first_chunk(window, job)
+}
+
 // Tells the length of the chunk that no cut has ended, and starts afresh with the same window.
 // Refused by grounds 1 and 2, with the scanner handed back.
 pub fn finish(scanner: Scanner) -> Finished

@@ -4,9 +4,9 @@ ghost use lib.ListN.{length};
 ghost use Prim.Native.Nat.{_+_, _-_, _^_, _≤_, _<_};
 ghost use mathlib.Core.Bool.{true, false};
 ghost use Rattle.refusal.specs.declared.Refusal.the-variants.{Accepted};
-ghost use Rattle.chunker.specs.Scanner.{fresh, groundOf};
+ghost use Rattle.chunker.specs.Scanner.{windowAllowed, fresh, groundOf};
 ghost use Rattle.chunker.specs.Answers.{scan, consumed};
-ghost use Rattle.chunker.specs.Run.{standing, Going, rest, Passed};
+ghost use Rattle.chunker.specs.Run.{standing, Going, rest, Begun, Further, Passed, Reached};
 use crate::Fed;
 use crate::Scanner;
 use crate::fresh;
@@ -25,26 +25,12 @@ pub struct Run {
     pub at: usize,
 }
 
-// Moves an accepted scanner on over a part. The first byte of a chunk is its largest so far.
+// Moves an accepted scanner on over a part: a block at a time where a window holds one, then byte by
+// byte.
 pub fn scan(scanner: Scanner, part: &[u8]) -> Fed
     requires { ⌜ groundOf scanner ≡ Accepted ⌝ }
     ensures { λ r. ⌜ r ≡ scan scanner 0 (now (part .entry)) ⌝ }
 {
-    let window = scanner.window as usize;
-    let count = scanner.count as usize;
-    if count != 0 {
-        let deadline = scanner.place as usize + window - count;
-        return on(
-            Run {
-                window,
-                base: count,
-                deadline,
-                value: scanner.value,
-                at: 0,
-            },
-            part,
-        );
-    }
     if part.len() == 0 {
         return Fed {
             refusal: Refusal::Accepted,
@@ -53,27 +39,59 @@ pub fn scan(scanner: Scanner, part: &[u8]) -> Fed
             cut: false,
         };
     }
-    on(
-        Run {
-            window,
-            base: 0,
-            deadline: 1 + window,
-            value: part[0],
-            at: 1,
-        },
-        part,
-    )
+    let mut run = begun(scanner, part);
+    if 16 <= run.window {
+        run = by_blocks(run, part);
+    }
+    run = by_bytes(run, part);
+    if run.at == run.deadline {
+        return cut(run.window, run.at);
+    }
+    to_end(run, part)
 }
 
-// Goes on over the rest of the part: a block at a time where a window holds one.
-fn on(run: Run, part: &[u8]) -> Fed
-    requires { ⌜ Going run (now part) ⌝ }
-    ensures { λ r. ⌜ r ≡ rest run (now (part .entry)) ⌝ }
+// The length of the first chunk of a job that is not empty.
+pub fn first_chunk(window: u32, job: &[u8]) -> usize
+    requires { ⌜ windowAllowed window ≡ true ⌝ }
+    requires { ⌜ 1 ≤ length (now job) ⌝ }
+    ensures { λ r. ⌜ r ≡ scan (fresh window) 0 (now (job .entry)) .consumed ⌝ }
 {
-    if run.window < 16 {
-        return by_bytes(run, part);
+    let mut run = begun(fresh(window), job);
+    if 16 <= run.window {
+        run = by_blocks(run, job);
     }
-    by_blocks(run, part)
+    run = by_bytes(run, job);
+    if run.at == run.deadline {
+        return run.at;
+    }
+    job.len()
+}
+
+// The start of a scan. The first byte of a chunk is its largest so far.
+fn begun(scanner: Scanner, part: &[u8]) -> Run
+    requires { ⌜ groundOf scanner ≡ Accepted ⌝ }
+    requires { ⌜ 1 ≤ length (now part) ⌝ }
+    ensures { λ r. ⌜ Begun scanner r (now (part .entry)) ⌝ }
+{
+    let window = scanner.window as usize;
+    let count = scanner.count as usize;
+    if count != 0 {
+        let deadline = scanner.place as usize + window - count;
+        return Run {
+            window,
+            base: count,
+            deadline,
+            value: scanner.value,
+            at: 0,
+        };
+    }
+    Run {
+        window,
+        base: 0,
+        deadline: 1 + window,
+        value: part[0],
+        at: 1,
+    }
 }
 
 // The part is passed, and no cut follows it.
@@ -112,10 +130,10 @@ fn cut(window: usize, at: usize) -> Fed
     }
 }
 
-// From one larger byte to the next, while the chunk can end in the part.
-fn by_bytes(run: Run, part: &[u8]) -> Fed
+// From one larger byte to the next, up to the chunk's end, or until it cannot end in the part.
+fn by_bytes(run: Run, part: &[u8]) -> Run
     requires { ⌜ Going run (now part) ⌝ }
-    ensures { λ r. ⌜ r ≡ rest run (now (part .entry)) ⌝ }
+    ensures { λ r. ⌜ Reached run r (now (part .entry)) ⌝ }
 {
     let window = run.window;
     let base = run.base;
@@ -125,22 +143,25 @@ fn by_bytes(run: Run, part: &[u8]) -> Fed
     while deadline <= part.len() {
         at = largest::next_larger(part, at, deadline, value);
         if at == deadline {
-            return cut(window, at);
+            return Run {
+                window,
+                base,
+                deadline,
+                value,
+                at,
+            };
         }
         value = part[at];
         at += 1;
         deadline = at + window;
     }
-    to_end(
-        Run {
-            window,
-            base,
-            deadline,
-            value,
-            at,
-        },
-        part,
-    )
+    Run {
+        window,
+        base,
+        deadline,
+        value,
+        at,
+    }
 }
 
 // The bytes of a part in which the chunk cannot end: only a larger one matters.
@@ -171,37 +192,40 @@ fn to_end(run: Run, part: &[u8]) -> Fed
     })
 }
 
-// A block at a time: of the bytes up to the deadline only the first of the largest can matter. The
-// last block before the deadline reaches back over bytes that are not larger than `value`.
-fn by_blocks(run: Run, part: &[u8]) -> Fed
+// A block at a time, as long as blocks are left: of the bytes up to the deadline only the first of the
+// largest can matter. The last block before the deadline reaches back over bytes that are not larger
+// than `value`; where it has no larger byte, the one at the deadline is left.
+fn by_blocks(run: Run, part: &[u8]) -> Run
     requires { ⌜ Going run (now part) ⌝ }
     requires { ⌜ 16 ≤ run .window ⌝ }
-    ensures { λ r. ⌜ r ≡ rest run (now (part .entry)) ⌝ }
+    ensures { λ r. ⌜ Further run r (now (part .entry)) ⌝ }
 {
     let mut run = run;
     while run.at < part.len() {
         run = by_large_blocks(run, part);
         let end = largest::lesser(run.deadline, part.len());
         if end < 16 {
-            return by_bytes(run, part);
+            return run;
         }
         if end < run.deadline {
             if end - run.at < 16 {
-                return by_bytes(run, part);
+                return run;
             }
         }
         let block = largest::pick(part, run.at, end);
-        run.at = block.to;
         if block.most > run.value {
+            run.at = block.to;
             run.value = block.most;
             run.deadline = largest::first_of(part, block) + 1 + run.window;
         } else {
-            if run.at == run.deadline {
-                return cut(run.window, run.at);
+            if block.to == run.deadline {
+                run.at = block.to - 1;
+                return run;
             }
+            run.at = block.to;
         }
     }
-    passed(run)
+    run
 }
 
 // Passes the blocks of 64 bytes that end before the deadline. Where the largest byte rises, its

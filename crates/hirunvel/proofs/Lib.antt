@@ -1,4 +1,3 @@
-pub mod Windows
 pub mod Scanners
 pub mod Outcomes
 pub mod Stretches

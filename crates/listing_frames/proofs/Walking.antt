@@ -7,12 +7,11 @@ use mathlib.Core.Bool.{Bool, true, false, cond}
 use mathlib.Core.List.{List, [], _∷_, _++_}
 use lib.Dec.{eqb}
 use lib.ListN.{length, getD, take, drop, length-append, length-drop, length-take, drop-of-length-le}
-use lib.Seq.{sets, length-sets, take-all, drop-drop, drop-cons}
-use Rattle.chunker.specs.declared.Fed.{Fed}
+use lib.Seq.{sets, length-sets, drop-drop, drop-cons}
 use Rattle.chunker.specs.Scanner.{fresh, windowAllowed}
 use Rattle.chunker.specs.Answers.{fed}
 use Rattle.chunker.specs.Chunks.{chunks}
-use Rattle.chunker.proofs.NextChunk.{NextChunk, next-chunk, no-chunks}
+use Rattle.chunker.proofs.NextChunk.{NextChunk, no-chunks, next-of-rest}
 use Rattle.listing_frames.specs.Frames.{frame}
 use Rattle.listing_frames.specs.Counted.{mark, countedFrames}
 use Rattle.listing_frames.proofs.Stores.{hex-length, sets-then}
@@ -63,25 +62,22 @@ walks-out job recipe before =
       gives = refl;
     }
 
--- the feed whose answer is f finds the next chunk, for which there is a number
-pub record Found (job recipe : List ℕ) (used at : ℕ) (f : Fed) : Type 0 where
-  pub some : 1 ≤ f .consumed
-  pub within : at + f .consumed ≤ length job
+-- the next chunk has n bytes, and there is a number for it
+pub record Found (job recipe : List ℕ) (used at n : ℕ) : Type 0 where
+  pub some : 1 ≤ n
+  pub within : at + n ≤ length job
   pub numbered : used < length recipe
   pub room : 23 * used + 23 ≤ 23 * length (chunks 4 job)
-  pub next : NextChunk 4 (drop at job) f
+  pub next : NextChunk 4 (drop at job) n
 
 module _ {job recipe before after : List ℕ} {next used at : ℕ} (w : Walking job recipe before after next used at) where
-  -- what is fed is what the job has left
-  left : take (length job - at) (drop at job) ≡ drop at job
-  left = take-all (length job - at) (drop at job) (omega (arith, length-drop at job))
-
-  pub finds : at < length job → length (chunks 4 job) ≤ length recipe → (f : Fed)
-      → f ≡ fed (fresh 4) (take (length job - at) (drop at job)) → Found job recipe used at f
+  -- the first chunk of what the job has left
+  pub finds : at < length job → length (chunks 4 job) ≤ length recipe → (n : ℕ)
+      → n ≡ fed (fresh 4) (take (length job - at) (drop at job)) .consumed → Found job recipe used at n
   unfolding windowAllowed
-  finds more enough f e =
+  finds more enough n e =
       let rest = length-drop at job in
-      let chunk : NextChunk 4 (drop at job) f = rw (e, left) (next-chunk 4 refl (drop at job) (omega arith)) in
+      let chunk = next-of-rest 4 refl job at more n e in
       let first = ap length (chunk .first) in
       record {
         some = chunk .some;
@@ -92,32 +88,32 @@ module _ {job recipe before after : List ℕ} {next used at : ℕ} (w : Walking 
       }
 
   -- its frame is written
-  pub walks-on : {f : Fed} → Found job recipe used at f → (output : List ℕ) (new : ℕ)
+  pub walks-on : {n : ℕ} → Found job recipe used at n → (output : List ℕ) (new : ℕ)
       → new ≡ mark (getD recipe used 0) next
-      → output ≡ sets after (23 * used) (frame (getD recipe used 0) at (f .consumed) new)
-      → Walking job recipe before output (next + new) (used + 1) (at + f .consumed)
+      → output ≡ sets after (23 * used) (frame (getD recipe used 0) at n new)
+      → Walking job recipe before output (next + new) (used + 1) (at + n)
   unfolding countedFrames
-  walks-on {f} found output new e o =
+  walks-on {n} found output new e o =
       let number = getD recipe used 0 in
       let chunk = found .next in
       let first = ap length (chunk .first) in
-      let rest = drop-drop (f .consumed) at job in
-      let size : length (take (f .consumed) (drop at job)) ≡ f .consumed =
+      let rest = drop-drop n at job in
+      let size : length (take n (drop at job)) ≡ n =
       simp length-take (omega (arith, chunk .within)) in
-      let behind = countedFrames (next + new) (at + f .consumed) (chunks 4 (drop (at + f .consumed) job)) (drop (used + 1) recipe) in
-      let written : frame number at (f .consumed) new ++ behind
+      let behind = countedFrames (next + new) (at + n) (chunks 4 (drop (at + n) job)) (drop (used + 1) recipe) in
+      let written : frame number at n new ++ behind
       ≡ countedFrames next at (chunks 4 (drop at job)) (drop used recipe) =
       rw (chunk .first, drop-cons recipe used 0 (found .numbered), size, rest, e, add-one used) in
       record {
         within = found .within;
         few = omega (arith, mark-most number next);
         moved = omega arith;
-        kept = ap length o ∙ length-sets after (23 * used) (frame number at (f .consumed) new) ∙ w .kept;
+        kept = ap length o ∙ length-sets after (23 * used) (frame number at n new) ∙ w .kept;
         places = omega (arith, w .places, rw rest at first);
         gives =
             rw o
-            (sym (sets-then (frame number at (f .consumed) new) behind after (23 * used) 23 (23 * (used + 1))
-            (frame-length number at (f .consumed) new) (omega arith))
+            (sym (sets-then (frame number at n new) behind after (23 * used) 23 (23 * (used + 1))
+            (frame-length number at n new) (omega arith))
             ∙ ap (sets after (23 * used)) written ∙ w .gives);
       }
 

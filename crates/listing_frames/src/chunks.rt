@@ -25,13 +25,11 @@ pub fn frames(job: &[u8], recipe: &[u32], output: &mut [u8]) -> usize
     ensures { λ r. ⌜ r ≡ 23 * length (chunks 4 (now (job .entry))) ⌝ }
     ensures { λ r. ⌜ now (output .exit) ≡ sets (now (output .entry)) 0 (countedFrames 0 0 (chunks 4 (now (job .entry))) (now (recipe .entry))) ⌝ }
 {
-    let opened = chunker::open(4);
-    let scanner = opened.scanner;
     let mut next = 0;
     let mut used = 0;
     let mut at = 0;
     while at < job.len() {
-        let fed = chunker::feed(scanner, &job[at..]);
+        let size = chunker::next_chunk(4, &job[at..]);
         let number = recipe[used];
         let new = mark(ChunkNumber(number), ChunkNumber(next));
         text::chunk_frame(
@@ -39,12 +37,12 @@ pub fn frames(job: &[u8], recipe: &[u32], output: &mut [u8]) -> usize
             23 * used,
             ChunkNumber(number),
             JobPosition(at as u32),
-            fed.consumed as u32,
+            size as u32,
             new,
         );
         next += new as u32;
         used += 1;
-        at += fed.consumed;
+        at += size;
     }
     23 * used
 }

@@ -10,7 +10,6 @@ use lib.Seq.{drop-drop}
 use borrow.Author.Tests.{leb-true}
 use Rattle.refusal.specs.Number.{accepted}
 use Rattle.refusal.specs.declared.Refusal.the-variants.{Accepted}
-use Rattle.chunker.specs.declared.Fed.{Fed}
 use Rattle.chunker.specs.Scanner.{windowAllowed}
 use Rattle.chunker.specs.Bytes.{Bytes}
 use Rattle.chunker.specs.Chunks.{chunks}
@@ -78,12 +77,12 @@ entries-in head pool directory h =
     }
 
 module _ {head : Head} {f : Filling} {job : List ℕ} {at : ℕ} {asked : Ended} (a : Admitting head f job at asked)
-    (fed : Fed) (next : NextChunk (head .window) (drop at job) fed) where
+    (n : ℕ) (next : NextChunk (head .window) (drop at job) n) where
   -- the next chunk
   abbrev chunk : List ℕ
-  chunk = take (fed .consumed) (drop at job)
+  chunk = take n (drop at job)
 
-  pub chunk-length : length chunk ≡ fed .consumed
+  pub chunk-length : length chunk ≡ n
   chunk-length = simp (length-take, length-drop) (omega (arith, next .within, length-drop at job))
 
   -- the chunk may be admitted
@@ -110,10 +109,10 @@ module _ {head : Head} {f : Filling} {job : List ℕ} {at : ℕ} {asked : Ended}
   -- the chunk is admitted, and the job goes on after it
   module _ (done : accepted (step f chunk .refusal) ≡ true) where
     parts : (step f chunk .filling ≡ taken f chunk)
-        × (filled f (chunk ∷ chunks (head .window) (drop (fed .consumed) (drop at job)))
-        ≡ filled (step f chunk .filling) (chunks (head .window) (drop (fed .consumed) (drop at job))))
+        × (filled f (chunk ∷ chunks (head .window) (drop n (drop at job)))
+        ≡ filled (step f chunk .filling) (chunks (head .window) (drop n (drop at job))))
         × (filled f (chunk ∷ []) ≡ record { refusal = Accepted; filling = taken f chunk })
-    parts = by-ground f chunk (chunks (head .window) (drop (fed .consumed) (drop at job))) _ refl done
+    parts = by-ground f chunk (chunks (head .window) (drop n (drop at job))) _ refl done
 
     -- what it makes of the admission
     took-chunk : Took (head .window) f (chunk ∷ []) (taken f chunk)
@@ -124,7 +123,7 @@ module _ {head : Head} {f : Filling} {job : List ℕ} {at : ℕ} {asked : Ended}
 
     pub admitting-on : (g : Filling) → g ≡ step f chunk .filling → length (g .pool) ≡ length (f .pool)
         → length (g .directory) ≡ length (f .directory) → length (g .recipe) ≡ length (f .recipe)
-        → Admitting head g job (at + fed .consumed) asked
+        → Admitting head g job (at + n) asked
     admitting-on g same p d r =
         let g-taken : taken f chunk ≡ g = sym (same ∙ parts .0) in
         let t : Took (head .window) f (chunk ∷ []) g = rw g-taken at took-chunk in
@@ -142,14 +141,14 @@ module _ {head : Head} {f : Filling} {job : List ℕ} {at : ℕ} {asked : Ended}
           counts = omega (arith, t .all, chunk-length, a .counts);
           used = t .room;
           gives =
-              rw (same, ← drop-drop (fed .consumed) at job)
+              rw (same, ← drop-drop n at job)
               (sym (parts .1) ∙ (ap (filled f) (sym (next .first)) ∙ a .gives));
         }
 
   -- the chunk is refused, and so is the job
   pub admitting-stops : accepted (step f chunk .refusal) ≡ false → step f chunk ≡ asked
   admitting-stops h =
-      sym (step-stops f chunk (chunks (head .window) (drop (fed .consumed) (drop at job))) h)
+      sym (step-stops f chunk (chunks (head .window) (drop n (drop at job))) h)
       ∙ (ap (filled f) (sym (next .first)) ∙ a .gives)
 
 -- the job is at its end

@@ -12,7 +12,6 @@ pub mod History
 pub mod Promise
 pub mod Lengths
 pub mod ChunkOfNumber
-pub mod Opening
 pub mod LaidOut
 pub mod Copying
 pub mod Searching

@@ -146,8 +146,8 @@ fn admit_chunk(
     outcome(Refusal::Accepted, with_new(progress, size))
 }
 
-// Admits a job on which none of the grounds 1 and 3 to 5 holds: its chunks in order, each found by a
-// fresh scanner in what the job has left.
+// Admits a job on which none of the grounds 1 and 3 to 5 holds: its chunks in order, each found in
+// what the job has left.
 pub fn admit(
     head: Head,
     pool: &mut [u8],
@@ -161,8 +161,6 @@ pub fn admit(
     ensures { λ r. ⌜ now (directory .exit) ≡ filled (begun head (now (pool .entry)) (now (directory .entry)) (now (recipe .entry))) (chunks (head .window) (now (job .entry))) .filling .directory ⌝ }
     ensures { λ r. ⌜ now (recipe .exit) ≡ filled (begun head (now (pool .entry)) (now (directory .entry)) (now (recipe .entry))) (chunks (head .window) (now (job .entry))) .filling .recipe ⌝ }
 {
-    let opened = chunker::open(head.window);
-    let scanner = opened.scanner;
     let chunks = head.chunks;
     let filled = head.filled;
     let mut progress = Progress {
@@ -175,8 +173,7 @@ pub fn admit(
     };
     let mut at = 0;
     while at < job.len() {
-        let fed = chunker::feed(scanner, &job[at..]);
-        let end = at + fed.consumed;
+        let end = at + chunker::next_chunk(head.window, &job[at..]);
         let step = admit_chunk(progress, pool, directory, recipe, &job[at..end]);
         let refusal = step.refusal;
         if !refusal::accepted(refusal) {

@@ -8,7 +8,7 @@ use borrow.Author.Tests.{not-true, not-false}
 use lib.ListN.{length, replicate}
 use Rattle.refusal.specs.declared.Refusal.the-variants.{JobLength}
 use Rattle.store.specs.Admission.{Admission}
-use Rattle.store.proofs.Opening.{all-bytes}
+use Rattle.chunker.proofs.Soundness.{all-bytes}
 use Rattle.listing_frames.specs.Frames.{outcome, admittedFrames, listing}
 use Rattle.listing_frames.proofs.Listed.{Accepts, accepts, comes-to, long-listing, short-listing, one-stands, all-stand}
 use Rattle.listing_frames.proofs.frames.Statement.{statement}

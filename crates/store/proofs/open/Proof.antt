@@ -2,7 +2,7 @@
 use mathlib.Core.Path.{sym, _∙_}
 use borrow.Author.Needs.{needs}
 use Rattle.store.specs.Admission.{opened}
-use Rattle.store.proofs.Opening.{opened-ground, opened-accepted}
+use Rattle.chunker.proofs.Opening.{opened-ground, opened-accepted}
 use Rattle.store.proofs.open.Statement.{statement}
 use Rattle.store.proofs.open.Tie as tie
 

@@ -1,7 +1,7 @@
 -- `chunker::scan::by_blocks` meets its contract: each turn passes large blocks, then one more block.
 use Prim.Native.Nat.{ℕ, _+_, _-_, min, _≤_, _<_}
 use native.Mathlib.Omega.{arith}
-use mathlib.Core.Path.{refl, _∙_}
+use mathlib.Core.Path.{_≡_, refl, _∙_}
 use mathlib.Core.List.{List}
 use mathlib.Core.Logic.{⊎-elim}
 use borrow.Author.Needs.{needs}
@@ -9,9 +9,9 @@ use lib.ListN.{length}
 use Rattle.chunker.specs.declared.Fed.{Fed}
 use Rattle.chunker.specs.declared.scan.Run.{Run}
 use Rattle.chunker.specs.Run.{rest}
-use Rattle.chunker.proofs.Underway.{Underway, stops, less-left, count-small, deadline-small}
+use Rattle.chunker.proofs.Underway.{Underway, less-left}
 use Rattle.chunker.proofs.Blocks.{first-within}
-use Rattle.chunker.proofs.BlockSteps.{block-rises, block-passes, block-cuts}
+use Rattle.chunker.proofs.BlockSteps.{block-rises, block-passes}
 use Rattle.chunker.proofs.scan.by_blocks.Statement.{statement}
 use Rattle.chunker.proofs.scan.by_blocks.Tie as tie
 
@@ -20,23 +20,28 @@ abbrev To : Run → List ℕ → Fed → Type 0
 To r part asked = Underway part (r .window) (r .base) (r .deadline) (r .value) (r .at) asked
 
 abbrev Inv-loop : tie.InvT-loop
-Inv-loop part run₀ run = (16 ≤ run .window) × To run part (rest run₀ part)
+Inv-loop part run₀ run = (16 ≤ run₀ .window) × (run .window ≡ run₀ .window) × To run part (rest run₀ part)
 
 abbrev μ-loop : tie.MeasureT-loop
 μ-loop part run₀ run = length part - run .at
 
 loop-holds : tie.Need-loop-holds Inv-loop μ-loop
-loop-holds c = (c .before .pre .1, record { order = c .before .pre .0; gives = refl })
+loop-holds c = (c .before .pre .1, refl, record { order = c .before .pre .0; gives = refl })
 
 by-large-blocks-requires : tie.Need-by-large-blocks-requires Inv-loop μ-loop
-by-large-blocks-requires c κs = c .before .before .loop .inv .1 .order
+by-large-blocks-requires c κs = c .before .before .loop .inv .2 .order
 
 -- after the large blocks the scan is under way as before them
 further : (c : tie.After-by-large-blocks Inv-loop μ-loop)
     → To (c .by-large-blocks .result) (c .before .before .before .before .before .args .part .now) (rest (c .before .before .before .before .before .args .run) (c .before .before .before .before .before .args .part .now))
 further c =
     let p = c .by-large-blocks .ensures in
-    record { order = p .going; gives = p .gives ∙ c .before .before .before .loop .inv .1 .gives }
+    record { order = p .going; gives = p .gives ∙ c .before .before .before .loop .inv .2 .gives }
+
+-- .. with the same window
+same-window : (c : tie.After-by-large-blocks Inv-loop μ-loop)
+    → c .by-large-blocks .result .window ≡ c .before .before .before .before .before .args .run .window
+same-window c = c .by-large-blocks .ensures .window ∙ c .before .before .before .loop .inv .1
 
 -- .. and not at the part's end
 inside : (c : tie.After-by-large-blocks Inv-loop μ-loop)
@@ -46,40 +51,31 @@ inside c = c .by-large-blocks .ensures .inside (c .before .if1 .taken)
 lesser-requires : tie.Need-lesser-requires Inv-loop μ-loop
 lesser-requires c κs = search needs
 
-by-bytes-requires : tie.Need-by-bytes-requires Inv-loop μ-loop
-by-bytes-requires c κs = further (c .before .before) .order
-
 returns : tie.Need-returns Inv-loop μ-loop
-returns c = c .by-bytes .ensures ∙ further (c .before .before .before) .gives
+returns c =
+    let u = further (c .before .before) in
+    record { window = same-window (c .before .before); going = u .order; gives = u .gives }
 
 sub-if4 : tie.Need-sub-if4 Inv-loop μ-loop
 sub-if4 c = omega (arith, inside (c .before .before .before .before .before))
 
-by-bytes-requires-2 : tie.Need-by-bytes-requires-2 Inv-loop μ-loop
-by-bytes-requires-2 c κs = further (c .before .before .before .before .before .before) .order
-
 returns-2 : tie.Need-returns-2 Inv-loop μ-loop
-returns-2 c = c .by-bytes2 .ensures ∙ further (c .before .before .before .before .before .before .before) .gives
+returns-2 c =
+    let u = further (c .before .before .before .before .before .before) in
+    record { window = same-window (c .before .before .before .before .before .before); going = u .order; gives = u .gives }
 
 -- the end is the deadline, or at least 16 bytes away
 room : (c : tie.Joined3 Inv-loop μ-loop)
-    → min (c .before .before .before .before .by-large-blocks .result .deadline)
-    (c .before .before .before .before .by-large-blocks .result .at + 16)
+    → min (c .before .before .before .before .by-large-blocks .result .deadline) (c .before .before .before .before .by-large-blocks .result .at + 16)
     ≤ c .before .before .before .lesser .result
 room c = ⊎-elim (λ w. omega arith) (λ w. omega arith) (c .if3 .came)
 
 -- the window still holds a block
 wide : (c : tie.Joined3 Inv-loop μ-loop) → 16 ≤ c .before .before .before .before .by-large-blocks .result .window
-wide c =
-    omega (
-      arith,
-      c .before .before .before .before .by-large-blocks .ensures .window,
-      c .before .before .before .before .before .before .before .loop .inv .0,
-    )
+wide c = omega (arith, same-window (c .before .before .before .before), c .before .before .before .before .before .before .before .loop .inv .0)
 
 pick-requires : tie.Need-pick-requires Inv-loop μ-loop
-pick-requires c κs =
-    omega (arith, inside (c .before .before .before .before), further (c .before .before .before .before) .order .live)
+pick-requires c κs = omega (arith, inside (c .before .before .before .before), further (c .before .before .before .before) .order .live)
 
 first-of-requires : tie.Need-first-of-requires Inv-loop μ-loop
 first-of-requires c κs = let p = c .before .before .before .pick .ensures in (p .largest, (p .whole, omega arith))
@@ -103,41 +99,42 @@ loop-less c =
 loop-again : tie.Need-loop-again Inv-loop μ-loop
 loop-again c =
     let joined = c .before .before .before .before .before .before in (
-      wide joined,
+      c .before .before .before .before .before .before .before .before .before .before .before .before .before .loop .inv .0,
+      same-window (c .before .before .before .before .before .before .before .before .before .before),
       block-rises (further (c .before .before .before .before .before .before .before .before .before .before)) _ _ (c .before .before .before .before .before .pick .ensures) (wide joined) (omega arith) (omega arith) (room joined)
           (c .before .first-of .result) _ (c .before .first-of .ensures) (c .before .before .if5 .taken) (omega arith) (omega arith),
     )
 
-cut-requires : tie.Need-cut-requires Inv-loop μ-loop
-cut-requires c κs = omega (arith, further (c .before .before .before .before .before .before .before .before .before .before) .order .high)
+sub-run : tie.Need-sub-run Inv-loop μ-loop
+sub-run c = omega (arith, c .before .before .before .before .before .before .before .pick .ensures .on)
 
 returns-3 : tie.Need-returns-3 Inv-loop μ-loop
 returns-3 c =
-    let joined = c .before .before .before .before .before .before .before in
-    c .cut .ensures
-    ∙ block-cuts (further (c .before .before .before .before .before .before .before .before .before .before .before)) _ _ (c .before .before .before .before .before .before .pick .ensures) (wide joined) (omega arith) (omega arith) (room joined)
-    (c .before .before .before .if5 .left) (c .before .if6 .taken)
+    let joined = c .before .before .before .before .before .before .before .before in
+    let on = c .before .before .before .before .before .before .before .pick .ensures .on in
+    let due = c .before .if6 .taken in
+    let u = block-passes (further (c .before .before .before .before .before .before .before .before .before .before .before .before)) _ _ (c .before .before .before .before .before .before .before .pick .ensures) (wide joined) (omega arith) (omega arith) (room joined)
+    (c .before .before .before .before .if5 .left) (c .before .before .before .before .before .before .before .pick .result .to - 1) (omega arith) (omega arith) (omega arith) in
+    record { window = same-window (c .before .before .before .before .before .before .before .before .before .before .before .before); going = u .order; gives = u .gives }
 
 loop-less-2 : tie.Need-loop-less-2 Inv-loop μ-loop
 loop-less-2 c =
-    less-left _ _ _ (c .before .before .before .before .before .before .before .before .before .before .before .if1 .taken) (omega (arith, c .before .before .before .before .before .pick .ensures .on, c .before .before .before .before .before .before .before .before .before .before .by-large-blocks .ensures .on))
+    less-left _ _ _ (c .before .before .before .before .before .before .before .before .before .before .before .before .if1 .taken) (omega (arith, c .before .before .before .before .before .before .pick .ensures .on, c .before .before .before .before .before .before .before .before .before .before .before .by-large-blocks .ensures .on))
 
 loop-again-2 : tie.Need-loop-again-2 Inv-loop μ-loop
 loop-again-2 c =
-    let joined = c .before .before .before .before .before .before in
+    let joined = c .before .before .before .before .before .before .before in
     let early = c .if6 .left in (
-      wide joined,
-      block-passes (further (c .before .before .before .before .before .before .before .before .before .before)) _ _ (c .before .before .before .before .before .pick .ensures) (wide joined) (omega arith) (omega arith) (room joined)
-          (c .before .before .if5 .left) (omega arith),
+      c .before .before .before .before .before .before .before .before .before .before .before .before .before .before .loop .inv .0,
+      same-window (c .before .before .before .before .before .before .before .before .before .before .before),
+      block-passes (further (c .before .before .before .before .before .before .before .before .before .before .before)) _ _ (c .before .before .before .before .before .before .pick .ensures) (wide joined) (omega arith) (omega arith) (room joined)
+          (c .before .before .before .if5 .left) _ (omega (arith, c .before .before .before .before .before .before .pick .ensures .on)) (omega arith) (omega arith),
     )
 
-passed-requires : tie.Need-passed-requires Inv-loop μ-loop
-passed-requires c κs =
-    let order = c .before .before .loop .inv .1 .order in
-    omega (arith, count-small order, deadline-small order)
-
 returns-4 : tie.Need-returns-4 Inv-loop μ-loop
-returns-4 c = c .passed .ensures ∙ stops (c .before .before .before .loop .inv .1) (c .before .if1 .left)
+returns-4 c =
+    let inv = c .before .before .loop .inv in
+    record { window = inv .1; going = inv .2 .order; gives = inv .2 .gives }
 
 pub by-blocks-spec : {M : Type 1} → statement M
 by-blocks-spec =
@@ -148,10 +145,8 @@ by-blocks-spec =
     loop-holds
     by-large-blocks-requires
     lesser-requires
-    by-bytes-requires
     returns
     sub-if4
-    by-bytes-requires-2
     returns-2
     pick-requires
     first-of-requires
@@ -159,9 +154,8 @@ by-blocks-spec =
     add-run-2
     loop-less
     loop-again
-    cut-requires
+    sub-run
     returns-3
     loop-less-2
     loop-again-2
-    passed-requires
     returns-4)

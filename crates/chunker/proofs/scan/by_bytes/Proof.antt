@@ -1,10 +1,10 @@
 -- `chunker::scan::by_bytes` meets its contract: each turn goes to the next larger byte.
 use Prim.Native.Nat.{_-_}
 use native.Mathlib.Omega.{arith}
-use mathlib.Core.Path.{refl, _∙_}
+use mathlib.Core.Path.{refl}
 use lib.ListN.{length}
 use Rattle.chunker.specs.Run.{onward}
-use Rattle.chunker.proofs.Underway.{Underway, passes-to, cuts-to, byte-rises, less-left}
+use Rattle.chunker.proofs.Underway.{Underway, passes-to, cuts-to, byte-rises}
 use Rattle.chunker.proofs.scan.by_bytes.Statement.{statement}
 use Rattle.chunker.proofs.scan.by_bytes.Tie as tie
 
@@ -21,13 +21,14 @@ loop-holds c = record { order = c .before .pre; gives = refl }
 next-larger-requires : tie.Need-next-larger-requires Inv-loop μ-loop
 next-larger-requires c κs = omega arith
 
-cut-requires : tie.Need-cut-requires Inv-loop μ-loop
-cut-requires c κs = omega arith
-
 returns : tie.Need-returns Inv-loop μ-loop
 returns c =
-    let next = c .before .before .next-larger .ensures in
-    c .cut .ensures ∙ cuts-to (c .before .before .before .before .loop .inv) _ (c .before .if1 .taken) (omega arith) (next .before)
+    let next = c .before .next-larger .ensures in
+    record {
+      window = refl;
+      cut = λ _. cuts-to (c .before .before .before .loop .inv) _ (c .if1 .taken) (omega arith) (next .before);
+      uncut = λ other. absurd (other (c .if1 .taken));
+    }
 
 shared-slice-read-value : tie.Need-shared-slice-read-value Inv-loop μ-loop
 shared-slice-read-value c = omega arith
@@ -50,11 +51,14 @@ loop-again c =
     byte-rises there (omega arith) (next .larger (omega arith))
     (omega (arith, c .shared-slice-known2 .given (c .before .before .next-larger .result)))
 
-to-end-requires : tie.Need-to-end-requires Inv-loop μ-loop
-to-end-requires c κs = (c .before .loop .inv .order, c .loop-test .left)
-
 returns-2 : tie.Need-returns-2 Inv-loop μ-loop
-returns-2 c = c .to-end .ensures ∙ c .before .before .loop .inv .gives
+returns-2 c =
+    let inv = c .before .loop .inv in
+    record {
+      window = refl;
+      cut = λ e. absurd (omega (arith, inv .order .live));
+      uncut = λ _. (record { window = refl; going = inv .order; gives = inv .gives }, c .loop-test .left);
+    }
 
 pub by-bytes-spec : {M : Type 1} → statement M
 by-bytes-spec =
@@ -64,12 +68,10 @@ by-bytes-spec =
     μ-loop
     loop-holds
     next-larger-requires
-    cut-requires
     returns
     shared-slice-read-value
     add-at
     add-deadline
     loop-less
     loop-again
-    to-end-requires
     returns-2)

@@ -1,8 +1,8 @@
 -- `hirunvel::scanning::no_byte` meets its contract.
-use mathlib.Core.Path.{_≡_, ap, _∙_}
+use mathlib.Core.Path.{_≡_, sym, ap, _∙_}
 use borrow.Author.Needs.{needs}
 use Rattle.refusal.specs.Number.{numberOf}
-use Rattle.hirunvel.proofs.Windows.{opened-ground, opened-accepted}
+use Rattle.chunker.proofs.Opening.{opened-ground, opened-accepted}
 use Rattle.hirunvel.proofs.scanning.no_byte.Statement.{statement}
 use Rattle.hirunvel.proofs.scanning.no_byte.Tie as tie
 
@@ -18,7 +18,7 @@ of-requires c κs = search needs
 returns : tie.Need-returns
 returns c =
     let opening = c .before .before .before .«open» .ensures in
-    let test = opened-accepted _ opening (c .before .before .accepted .ensures) ∙ c .before .if1 .taken in
+    let test = sym (opened-accepted _ _ opening) ∙ (sym (c .before .before .accepted .ensures) ∙ c .before .if1 .taken) in
     rw test (c .of .ensures)
 
 of-requires-2 : tie.Need-of-requires-2
@@ -27,9 +27,8 @@ of-requires-2 c κs = search needs
 returns-2 : tie.Need-returns-2
 returns-2 c =
     let opening = c .before .before .before .«open» .ensures in
-    let test = opened-accepted _ opening (c .before .before .accepted .ensures) ∙ c .before .if1 .left in
-    let ground = ap (λ o. o .refusal) opening ∙ opened-ground _ in
-    rw test (c .of2 .ensures ∙ ap numberOf (rw test at ground))
+    let test = sym (opened-accepted _ _ opening) ∙ (sym (c .before .before .accepted .ensures) ∙ c .before .if1 .left) in
+    rw test (c .of2 .ensures ∙ ap numberOf (rw test at (opened-ground _ _ opening)))
 
 pub no-byte-spec : {M : Type 1} → statement M
 no-byte-spec =

@@ -1,51 +1,39 @@
 -- `listing_frames::chunks::frames` meets its contract. Each turn writes the frame of one chunk.
 use Prim.Native.Nat.{_*_, _-_, _≤_}
 use native.Mathlib.Omega.{arith}
-use mathlib.Core.Path.{_≡_, refl, ap, _∙_}
+use mathlib.Core.Path.{ap}
 use borrow.Author.Needs.{needs}
 use lib.ListN.{length, getD}
-use Rattle.chunker.specs.Scanner.{windowAllowed, fresh}
-use Rattle.chunker.proofs.Soundness.{opened-fresh}
 use Rattle.listing_frames.proofs.Walking.{Walking, Found, mark-most, walks-out, finds, walks-on, walks-all, walks-ends}
 use Rattle.listing_frames.proofs.chunks.frames.Statement.{statement}
 use Rattle.listing_frames.proofs.chunks.frames.Tie as tie
 
 abbrev Inv-loop : tie.InvT-loop
-Inv-loop job recipe output₀ scanner next₀ used₀ at₀ output next used at =
-    (scanner ≡ fresh 4) × Walking job recipe output₀ output next used at
+Inv-loop job recipe output₀ next₀ used₀ at₀ output next used at =
+    Walking job recipe output₀ output next used at
 
 abbrev μ-loop : tie.MeasureT-loop
-μ-loop job recipe output₀ scanner next₀ used₀ at₀ output next used at = length job - at
-
-open-requires : tie.Need-open-requires Inv-loop μ-loop
-open-requires c κs = search needs
+μ-loop job recipe output₀ next₀ used₀ at₀ output next used at = length job - at
 
 loop-holds : tie.Need-loop-holds Inv-loop μ-loop
-unfolding windowAllowed
-loop-holds c = (ap (λ o. o .scanner) (c .before .«open» .ensures) ∙ opened-fresh 4 refl, walks-out _ _ _)
+loop-holds c = walks-out _ _ _
 
-sub-feed : tie.Need-sub-feed Inv-loop μ-loop
-sub-feed c = omega arith
+sub-next-chunk : tie.Need-sub-next-chunk Inv-loop μ-loop
+sub-next-chunk c = omega arith
 
-part-feed-start : tie.Need-part-feed-start Inv-loop μ-loop
-part-feed-start c = omega arith
+part-next-chunk-start : tie.Need-part-next-chunk-start Inv-loop μ-loop
+part-next-chunk-start c = omega arith
 
-part-feed-end : tie.Need-part-feed-end Inv-loop μ-loop
-part-feed-end c = omega arith
+part-next-chunk-end : tie.Need-part-next-chunk-end Inv-loop μ-loop
+part-next-chunk-end c = omega arith
 
-feed-requires : tie.Need-feed-requires Inv-loop μ-loop
-feed-requires c κs = search needs
+next-chunk-requires : tie.Need-next-chunk-requires Inv-loop μ-loop
+next-chunk-requires c κs = search needs
 
--- a turn feeds what the job has left
-found : (c : tie.After-feed Inv-loop μ-loop) →
-    let start = c .before .before .before .before .before .before .before .before .before in
-    let loop = c .before .before .before .loop in
-    Found (start .args .job .now) (start .args .recipe .now) (loop .used) (loop .at) (c .feed .result)
-found c =
-    let start = c .before .before .before .before .before .before .before .before .before in
-    let loop = c .before .before .before .loop in
-    finds (loop .inv .1) (c .before .before .loop-test .taken) (start .pre .1 .0) (c .feed .result)
-    (rw (loop .inv .0) at (c .feed .ensures))
+-- a turn takes the first chunk of what the job has left
+found : (c : tie.After-next-chunk Inv-loop μ-loop) → let start = c .before .before .before .before .before .before .before in let loop = c .before .before .before .loop in
+    Found (start .args .job .now) (start .args .recipe .now) (loop .used) (loop .at) (c .next-chunk .result)
+found c = finds (c .before .before .before .loop .inv) (c .before .before .loop-test .taken) (c .before .before .before .before .before .before .before .pre .1 .0) _ (c .next-chunk .ensures)
 
 mul-number : tie.Need-mul-number Inv-loop μ-loop
 mul-number c = omega (arith, found c)
@@ -57,23 +45,23 @@ mark-requires : tie.Need-mark-requires Inv-loop μ-loop
 mark-requires c κs = search needs
 
 mul-chunk-frame : tie.Need-mul-chunk-frame Inv-loop μ-loop
-mul-chunk-frame c = omega (arith, c .before .before .before .before .before .before .loop .inv .1)
+mul-chunk-frame c = omega (arith, c .before .before .before .before .before .before .loop .inv)
 
 cast-next : tie.Need-cast-next Inv-loop μ-loop
-cast-next c = omega (arith, c .before .before .before .before .before .before .loop .inv .1)
+cast-next c = omega (arith, c .before .before .before .before .before .before .loop .inv)
 
 cast-chunk-frame : tie.Need-cast-chunk-frame Inv-loop μ-loop
-cast-chunk-frame c = omega (arith, found (c .before .before .before .before))
+cast-chunk-frame c = omega (arith, found (c .before .before .before))
 
 chunk-frame-requires : tie.Need-chunk-frame-requires Inv-loop μ-loop
-chunk-frame-requires c κs = omega (arith, found (c .before .before .before .before))
+chunk-frame-requires c κs = omega (arith, found (c .before .before .before))
 
 -- a chunk counts as one new chunk at most
-one : (c : tie.After-slice-known2 Inv-loop μ-loop) → c .before .before .before .before .before .mark .result ≤ 1
+one : (c : tie.After-slice-known2 Inv-loop μ-loop) → c .before .before .before .before .mark .result ≤ 1
 one c =
-    let looped = c .before .before .before .before .before .before .before .before .before .before in
-    let start = looped .before .before .before .before .before .before in
-    rw (c .before .before .before .before .before .mark .ensures)
+    let looped = c .before .before .before .before .before .before .before .before .before in
+    let start = looped .before .before .before .before in
+    rw (c .before .before .before .before .mark .ensures)
     (mark-most (getD (start .args .recipe .now) (looped .loop .used) 0) (looped .loop .next))
 
 cast-next-2 : tie.Need-cast-next-2 Inv-loop μ-loop
@@ -81,38 +69,38 @@ cast-next-2 c = omega (arith, one c)
 
 add-next : tie.Need-add-next Inv-loop μ-loop
 add-next c =
-    let loop = c .before .before .before .before .before .before .before .before .before .before .loop in
-    omega (arith, loop .inv .1, one c)
+    let loop = c .before .before .before .before .before .before .before .before .before .loop in
+    omega (arith, loop .inv, one c)
 
 add-used : tie.Need-add-used Inv-loop μ-loop
 add-used c =
-    let loop = c .before .before .before .before .before .before .before .before .before .before .loop in
-    omega (arith, loop .inv .1)
+    let loop = c .before .before .before .before .before .before .before .before .before .loop in
+    omega (arith, loop .inv)
 
 add-at : tie.Need-add-at Inv-loop μ-loop
-add-at c = omega (arith, found (c .before .before .before .before .before .before .before .before))
+add-at c = omega (arith, found (c .before .before .before .before .before .before))
 
 loop-less : tie.Need-loop-less Inv-loop μ-loop
-loop-less c = omega (arith, found (c .before .before .before .before .before .before .before .before))
+loop-less c = omega (arith, found (c .before .before .before .before .before .before))
 
 loop-again : tie.Need-loop-again Inv-loop μ-loop
 loop-again c =
-    let loop = c .before .before .before .before .before .before .before .before .before .before .before .loop in
-    let marked = c .before .before .before .before .before .before .mark in
-    let written = c .before .before .before .chunk-frame in
-    let on = walks-on (loop .inv .1) (found (c .before .before .before .before .before .before .before .before)) in
-    (loop .inv .0, on (written .last .0) (marked .result) (marked .ensures) (written .ensures .1))
+    let loop = c .before .before .before .before .before .before .before .before .before .loop in
+    let marked = c .before .before .before .before .mark in
+    let written = c .before .before .chunk-frame in
+    let on = walks-on (loop .inv) (found (c .before .before .before .before .before .before)) in
+    on (written .last .0) (marked .result) (marked .ensures) (written .ensures .1)
 
 mul-result : tie.Need-mul-result Inv-loop μ-loop
-mul-result c = omega (arith, c .before .loop .inv .1)
+mul-result c = omega (arith, c .before .loop .inv)
 
 same-length : tie.Need-same-length Inv-loop μ-loop
-same-length c = c .before .loop .inv .1 .kept
+same-length c = c .before .loop .inv .kept
 
 returns : tie.Need-returns Inv-loop μ-loop
 returns c =
-    let done = walks-all (c .before .loop .inv .1) (c .loop-test .left) in
-    (ap (λ n. 23 * n) done, walks-ends (c .before .loop .inv .1) (c .loop-test .left))
+    let done = walks-all (c .before .loop .inv) (c .loop-test .left) in
+    (ap (λ n. 23 * n) done, walks-ends (c .before .loop .inv) (c .loop-test .left))
 
 pub frames-spec : {M : Type 1} → statement M
 frames-spec =
@@ -120,12 +108,11 @@ frames-spec =
     (tie.spec
     Inv-loop
     μ-loop
-    open-requires
     loop-holds
-    sub-feed
-    part-feed-start
-    part-feed-end
-    feed-requires
+    sub-next-chunk
+    part-next-chunk-start
+    part-next-chunk-end
+    next-chunk-requires
     mul-number
     shared-slice-read-number
     mark-requires

@@ -10,7 +10,7 @@ use Rattle.refusal.specs.declared.Refusal.the-variants.{Accepted, ChunkNumber a
 use Rattle.chunker.specs.Scanner.{windowAllowed}
 use Rattle.store.specs.Directory.{recipeAllowed}
 use Rattle.store.specs.Looking.{storeGround}
-use Rattle.store.proofs.Opening.{opened-ground, opened-accepted}
+use Rattle.chunker.proofs.Opening.{opened-ground, opened-accepted}
 use Rattle.rebuild.specs.Rebuilding.{rebuiltBytes, allBelow, rebuildGround}
 use Rattle.rebuild.proofs.RebuildGround.{window-refused, recipe-refused, store-refused, store-passed, pool-small}
 use Rattle.rebuild.proofs.grounds.of_rebuilding.Statement.{statement}

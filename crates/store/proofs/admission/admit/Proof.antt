@@ -7,9 +7,9 @@ use borrow.Author.Needs.{needs}
 use borrow.Author.Tests.{not-true, not-false}
 use lib.ListN.{length, drop, take, length-drop}
 use Rattle.refusal.specs.Number.{accepted}
-use Rattle.chunker.proofs.NextChunk.{NextChunk}
+use Rattle.chunker.proofs.Soundness.{all-bytes}
+use Rattle.chunker.proofs.NextChunk.{NextChunk, next-of-rest}
 use Rattle.store.specs.Filling.{Filling, filling}
-use Rattle.store.proofs.Opening.{feeds, all-bytes}
 use Rattle.store.proofs.Steps.{Leaves}
 use Rattle.store.proofs.Outcomes.{run}
 use Rattle.store.proofs.Admitting.{Admitting, ready}
@@ -18,22 +18,22 @@ use Rattle.store.proofs.admission.admit.Statement.{statement}
 use Rattle.store.proofs.admission.admit.Tie as tie
 
 abbrev Inv-loop : tie.InvT-loop
-Inv-loop head pool₀ directory₀ recipe₀ job scanner progress₀ at₀ pool directory recipe progress at =
+Inv-loop head pool₀ directory₀ recipe₀ job progress₀ at₀ pool directory recipe progress at =
     Admitting head (filling progress pool directory recipe) job at (run head pool₀ directory₀ recipe₀ job)
     × (length pool ≡ length pool₀) × (length directory ≡ length directory₀) × (length recipe ≡ length recipe₀)
 
 abbrev μ-loop : tie.MeasureT-loop
-μ-loop head pool₀ directory₀ recipe₀ job scanner progress₀ at₀ pool directory recipe progress at = length job - at
+μ-loop head pool₀ directory₀ recipe₀ job progress₀ at₀ pool directory recipe progress at = length job - at
 
--- the places of the code that the needs below go back to: the start, the head of a turn, its feed and its chunk
+-- the places of the code that the needs below go back to: the start, the head of a turn, the call that finds its chunk and the one that admits it
 abbrev start-of : tie.At-loop Inv-loop μ-loop → tie.Start Inv-loop μ-loop
-start-of t = t .before .before .before .before .before .before .before .before .before
+start-of t = t .before .before .before .before .before .before .before
 
-abbrev turn-of : tie.After-feed Inv-loop μ-loop → tie.At-loop Inv-loop μ-loop
+abbrev turn-of : tie.After-next-chunk Inv-loop μ-loop → tie.At-loop Inv-loop μ-loop
 turn-of c = c .before .before .before
 
-abbrev feed-of : tie.After-admit-chunk Inv-loop μ-loop → tie.After-feed Inv-loop μ-loop
-feed-of c = c .before .before .before .before .before .before
+abbrev call-of : tie.After-admit-chunk Inv-loop μ-loop → tie.After-next-chunk Inv-loop μ-loop
+call-of c = c .before .before .before .before .before
 
 abbrev chunk-of : tie.After-accepted Inv-loop μ-loop → tie.After-admit-chunk Inv-loop μ-loop
 chunk-of c = c .before .before .before .before .before .before .before
@@ -45,54 +45,49 @@ job-of t = start-of t .args .job .now
 abbrev filling-of : tie.At-loop Inv-loop μ-loop → Filling
 filling-of t = filling (t .loop .progress) (t .loop .pool) (t .loop .directory) (t .loop .recipe)
 
-abbrev next-chunk : tie.After-feed Inv-loop μ-loop → List ℕ
-next-chunk c = take (c .feed .result .consumed) (drop (turn-of c .loop .at) (job-of (turn-of c)))
-
-open-requires : tie.Need-open-requires Inv-loop μ-loop
-open-requires c κs = search needs
+abbrev chunk-at : tie.After-next-chunk Inv-loop μ-loop → List ℕ
+chunk-at c = take (c .next-chunk .result) (drop (turn-of c .loop .at) (job-of (turn-of c)))
 
 loop-holds : tie.Need-loop-holds Inv-loop μ-loop
 loop-holds c =
-    let given = c .before .before .before .before .shared-slice-known .given in
-    let a = c .before .before .before .before .before .before .before .before .args in
+    let given = c .before .before .shared-slice-known .given in
+    let a = c .before .before .before .before .before .before .args in
     let bytes = all-bytes (a .job .now) (λ i. omega (arith, given i)) in (
       admitting-starts (a .head) (a .pool .now) (a .directory .now) (a .recipe .now) (a .job .now) bytes
-          (c .before .before .before .before .before .before .before .before .pre),
+          (c .before .before .before .before .before .before .pre),
       refl,
       refl,
       refl,
     )
 
-sub-feed : tie.Need-sub-feed Inv-loop μ-loop
-sub-feed c = omega arith
+sub-next-chunk : tie.Need-sub-next-chunk Inv-loop μ-loop
+sub-next-chunk c = omega arith
 
-part-feed-start : tie.Need-part-feed-start Inv-loop μ-loop
-part-feed-start c = omega arith
+part-next-chunk-start : tie.Need-part-next-chunk-start Inv-loop μ-loop
+part-next-chunk-start c = omega arith
 
-part-feed-end : tie.Need-part-feed-end Inv-loop μ-loop
-part-feed-end c = omega arith
+part-next-chunk-end : tie.Need-part-next-chunk-end Inv-loop μ-loop
+part-next-chunk-end c = omega arith
 
-feed-requires : tie.Need-feed-requires Inv-loop μ-loop
-feed-requires c κs = search needs
+next-chunk-requires : tie.Need-next-chunk-requires Inv-loop μ-loop
+next-chunk-requires c κs = search needs
 
--- the answer to the feed has the next chunk
-next-of : (c : tie.After-feed Inv-loop μ-loop)
+-- the call finds the next chunk
+next-of : (c : tie.After-next-chunk Inv-loop μ-loop)
     → NextChunk (start-of (turn-of c) .args .head .window) (drop (turn-of c .loop .at) (job-of (turn-of c)))
-    (c .feed .result)
+    (c .next-chunk .result)
 next-of c =
-    let turn = turn-of c in
-    let opening = turn .before .before .before .before .«open» .ensures in
-    feeds _ (turn .loop .inv .0 .allowed) _ opening _ _ (c .before .before .loop-test .taken) _ (c .feed .ensures)
+    next-of-rest _ (turn-of c .loop .inv .0 .allowed) _ _ (c .before .before .loop-test .taken) _ (c .next-chunk .ensures)
 
 -- which ends no later than the job
-within : (c : tie.After-feed Inv-loop μ-loop)
-    → turn-of c .loop .at + c .feed .result .consumed ≤ length (job-of (turn-of c))
+within : (c : tie.After-next-chunk Inv-loop μ-loop)
+    → turn-of c .loop .at + c .next-chunk .result ≤ length (job-of (turn-of c))
 within c =
     let left = length-drop (turn-of c .loop .at) (job-of (turn-of c)) in
     omega (arith, next-of c .within, c .before .before .loop-test .taken)
 
 add-end : tie.Need-add-end Inv-loop μ-loop
-add-end c = omega (arith, within (c .before))
+add-end c = omega (arith, within c)
 
 sub-admit-chunk : tie.Need-sub-admit-chunk Inv-loop μ-loop
 sub-admit-chunk c = omega arith
@@ -101,24 +96,24 @@ part-admit-chunk-start : tie.Need-part-admit-chunk-start Inv-loop μ-loop
 part-admit-chunk-start c = omega arith
 
 part-admit-chunk-end : tie.Need-part-admit-chunk-end Inv-loop μ-loop
-part-admit-chunk-end c = omega (arith, within (c .before .before .before .before))
+part-admit-chunk-end c = omega (arith, within (c .before .before .before))
 
 -- the part of the job that the code hands on is the next chunk
-handed-on : (c : tie.After-feed Inv-loop μ-loop)
-    → turn-of c .loop .at + c .feed .result .consumed - turn-of c .loop .at ≡ c .feed .result .consumed
+handed-on : (c : tie.After-next-chunk Inv-loop μ-loop)
+    → turn-of c .loop .at + c .next-chunk .result - turn-of c .loop .at ≡ c .next-chunk .result
 handed-on c = omega arith
 
 admit-chunk-requires : tie.Need-admit-chunk-requires Inv-loop μ-loop
 admit-chunk-requires c κs =
-    let fed = c .before .before .before .before .before in
-    rw (handed-on fed) (ready (turn-of fed .loop .inv .0) _ (next-of fed))
+    let call = c .before .before .before .before in
+    rw (handed-on call) (ready (turn-of call .loop .inv .0) _ (next-of call))
 
 -- the call of `admit_chunk` takes the step of the next chunk
 stepped : (c : tie.After-admit-chunk Inv-loop μ-loop)
-    → Leaves (filling-of (turn-of (feed-of c))) (next-chunk (feed-of c)) (c .admit-chunk .result .refusal)
+    → Leaves (filling-of (turn-of (call-of c))) (chunk-at (call-of c)) (c .admit-chunk .result .refusal)
     (filling (c .admit-chunk .result .progress) (c .admit-chunk .last .1 .0) (c .admit-chunk .last .1 .1 .0)
     (c .admit-chunk .last .1 .1 .1 .0))
-stepped c = rw (handed-on (feed-of c)) at (c .admit-chunk .ensures)
+stepped c = rw (handed-on (call-of c)) at (c .admit-chunk .ensures)
 
 accepted-requires : tie.Need-accepted-requires Inv-loop μ-loop
 accepted-requires c κs = search needs
@@ -129,12 +124,12 @@ refused-requires c κs = search needs
 -- so far memory keeps its lengths
 kept-of : (c : tie.After-accepted Inv-loop μ-loop)
     → let call = chunk-of c .admit-chunk .last .1 in
-    let a = start-of (turn-of (feed-of (chunk-of c))) .args in
+    let a = start-of (turn-of (call-of (chunk-of c))) .args in
     (length (call .0) ≡ length (a .pool .now)) × (length (call .1 .0) ≡ length (a .directory .now))
     × (length (call .1 .1 .0) ≡ length (a .recipe .now))
 kept-of c =
     let kept = chunk-of c .admit-chunk .kept .1 in
-    let lengths = turn-of (feed-of (chunk-of c)) .loop .inv in
+    let lengths = turn-of (call-of (chunk-of c)) .loop .inv in
     (kept .0 ∙ lengths .1, kept .1 .0 ∙ lengths .2, kept .1 .1 .0 ∙ lengths .3)
 
 same-length : tie.Need-same-length Inv-loop μ-loop
@@ -152,7 +147,7 @@ returns c =
     let s = stepped call in
     let tested = sym (c .before .before .accepted .ensures) ∙ not-true _ (c .before .if1 .taken) in
     let refused = sym (ap accepted (s .0)) ∙ tested in
-    let stops = admitting-stops (turn-of (feed-of call) .loop .inv .0) _ (next-of (feed-of call)) refused in (
+    let stops = admitting-stops (turn-of (call-of call) .loop .inv .0) _ (next-of (call-of call)) refused in (
       c .refused .ensures ∙ rw (s .0, ← stops, refused),
       (
         ap (λ x. x .pool) (s .1) ∙ ap (λ x. x .filling .pool) stops,
@@ -165,8 +160,8 @@ returns c =
 
 loop-less : tie.Need-loop-less Inv-loop μ-loop
 loop-less c =
-    let fed = feed-of (chunk-of (c .before .before)) in
-    omega (arith, next-of fed .some, within fed)
+    let call = call-of (chunk-of (c .before .before)) in
+    omega (arith, next-of call .some, within call)
 
 loop-again : tie.Need-loop-again Inv-loop μ-loop
 loop-again c =
@@ -176,7 +171,7 @@ loop-again c =
     let admitted = sym (ap accepted (s .0)) ∙ tested in
     let kept = call .admit-chunk .kept .1 in
     let lengths = kept-of (c .before .before) in (
-      admitting-on (turn-of (feed-of call) .loop .inv .0) _ (next-of (feed-of call)) admitted _ (s .1) (kept .0)
+      admitting-on (turn-of (call-of call) .loop .inv .0) _ (next-of (call-of call)) admitted _ (s .1) (kept .0)
           (kept .1 .0) (kept .1 .1 .0),
       lengths .0,
       lengths .1,
@@ -210,12 +205,11 @@ admit-spec =
     (tie.spec
     Inv-loop
     μ-loop
-    open-requires
     loop-holds
-    sub-feed
-    part-feed-start
-    part-feed-end
-    feed-requires
+    sub-next-chunk
+    part-next-chunk-start
+    part-next-chunk-end
+    next-chunk-requires
     add-end
     sub-admit-chunk
     part-admit-chunk-start

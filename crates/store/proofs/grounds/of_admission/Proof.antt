@@ -6,7 +6,7 @@ use borrow.Author.Tests.{not-true, not-false}
 use Rattle.chunker.specs.Scanner.{windowAllowed}
 use Rattle.store.specs.Directory.{jobAllowed}
 use Rattle.store.specs.Admission.{admissionGround}
-use Rattle.store.proofs.Opening.{opened-ground, opened-accepted}
+use Rattle.chunker.proofs.Opening.{opened-ground, opened-accepted}
 use Rattle.store.proofs.grounds.of_admission.Statement.{statement}
 use Rattle.store.proofs.grounds.of_admission.Tie as tie
 

@@ -5,7 +5,7 @@ use borrow.Author.Needs.{needs}
 use borrow.Author.Tests.{not-true, not-false}
 use Rattle.chunker.specs.Scanner.{windowAllowed}
 use Rattle.store.specs.Looking.{storeGround}
-use Rattle.store.proofs.Opening.{opened-ground, opened-accepted}
+use Rattle.chunker.proofs.Opening.{opened-ground, opened-accepted}
 use Rattle.store.proofs.grounds.of_store.Statement.{statement}
 use Rattle.store.proofs.grounds.of_store.Tie as tie
 

@@ -1,0 +1,41 @@
+-- `chunker::next_chunk` meets its contract.
+use native.Mathlib.Omega.{arith}
+use mathlib.Core.Path.{_≡_, sym, ap, _∙_}
+use borrow.Author.Needs.{needs}
+use borrow.Author.Tests.{not-true, not-false}
+use Rattle.refusal.specs.declared.Refusal.the-variants.{Accepted}
+use Rattle.chunker.specs.Scanner.{fresh, groundOf}
+use Rattle.chunker.proofs.Soundness.{fed-accepted, fed-refused, fresh-ground, fresh-refused}
+use Rattle.chunker.proofs.Scanning.{stays}
+use Rattle.chunker.proofs.next_chunk.Statement.{statement}
+use Rattle.chunker.proofs.next_chunk.Tie as tie
+
+-- an allowed window's fresh scanner is accepted
+ground : (c : tie.Else1) → groundOf (fresh (c .before .before .before .args .window)) ≡ Accepted
+ground c = fresh-ground _ (sym (c .before .window-allowed .ensures) ∙ not-false _ (c .if1 .left))
+
+window-allowed-requires : tie.Need-window-allowed-requires
+window-allowed-requires c κs = search needs
+
+returns : tie.Need-returns
+returns c =
+    let test = sym (c .before .window-allowed .ensures) ∙ not-true _ (c .if1 .taken) in
+    rw (fed-refused _ (c .before .before .before .args .job .now) (fresh-refused _ test))
+
+returns-2 : tie.Need-returns-2
+returns-2 c =
+    let job = c .before .before .before .before .args .job .now in
+    rw (fed-accepted _ job (ground (c .before))) (ap (λ f. f .consumed) (stays _ 0 job (c .if2 .taken)))
+
+first-chunk-requires : tie.Need-first-chunk-requires
+first-chunk-requires c κs =
+    (sym (c .before .before .window-allowed .ensures) ∙ not-false _ (c .before .if1 .left), omega arith)
+
+returns-3 : tie.Need-returns-3
+returns-3 c =
+    let job = c .before .before .before .before .before .args .job .now in
+    rw (fed-accepted _ job (ground (c .before .before))) (c .first-chunk .ensures)
+
+pub next-chunk-spec : {M : Type 1} → statement M
+next-chunk-spec =
+    tie.close (tie.spec window-allowed-requires returns returns-2 first-chunk-requires returns-3)

@@ -1,0 +1,52 @@
+-- `chunker::scan::first_chunk` meets its contract.
+use native.Mathlib.Omega.{arith}
+use mathlib.Core.Path.{sym, ap, _∙_}
+use mathlib.Core.Logic.{⊎-elim}
+use borrow.Author.Needs.{needs}
+use Rattle.chunker.specs.Scanner.{fresh}
+use Rattle.chunker.specs.Run.{Begun, Further}
+use Rattle.chunker.proofs.Soundness.{fresh-ground}
+use Rattle.chunker.proofs.ScanEnds.{further-none, ends-chunk, leaves-rest, consumes-part}
+use Rattle.chunker.proofs.scan.first_chunk.Statement.{statement}
+use Rattle.chunker.proofs.scan.first_chunk.Tie as tie
+
+fresh-requires : tie.Need-fresh-requires
+fresh-requires c κs = search needs
+
+begun-requires : tie.Need-begun-requires
+begun-requires c κs =
+    (rw (c .fresh .ensures) (fresh-ground _ (c .before .before .pre .0)), c .before .before .pre .1)
+
+by-blocks-requires : tie.Need-by-blocks-requires
+by-blocks-requires c κs = search needs
+
+-- the scan begins with a fresh scanner
+begins : (c : tie.After-begun) → let a = c .before .before .before .args in Begun (fresh (a .window)) (c .begun .result) (a .job .now)
+begins c = rw (c .before .fresh .ensures) at (c .begun .ensures)
+
+-- the run after the blocks, if any
+further : (c : tie.Joined1) →
+    Further (c .before .before .begun .result) (c .if1 .run) (c .before .before .before .before .before .args .job .now)
+further c =
+    ⊎-elim (λ blocks. rw (blocks .2) (blocks .1 .ensures))
+    (λ none. rw (none .1) (further-none _ _ (c .before .before .begun .ensures .going))) (c .if1 .came)
+
+by-bytes-requires : tie.Need-by-bytes-requires
+by-bytes-requires c κs = further c .going
+
+returns : tie.Need-returns
+returns c =
+    ap (λ f. f .consumed)
+    (ends-chunk (begins (c .before .before .before .before .before)) (further (c .before .before .before)) (c .before .before .by-bytes .ensures) (c .if2 .taken))
+
+returns-2 : tie.Need-returns-2
+returns-2 c =
+    let uncut = c .before .before .by-bytes .ensures .uncut (c .if2 .left) in
+    let whole = consumes-part (c .before .before .by-bytes .result) (c .before .before .before .before .before .before .before .before .args .job .now) (λ q. omega (arith, c .before .before .before .before .before .before .before .shared-slice-known .given q)) (uncut .0 .going) (uncut .1) in
+    let rest = leaves-rest (begins (c .before .before .before .before .before)) (further (c .before .before .before)) (c .before .before .by-bytes .ensures) (c .if2 .left) in
+    sym whole ∙ ap (λ f. f .consumed) rest
+
+pub first-chunk-spec : {M : Type 1} → statement M
+first-chunk-spec =
+    tie.close
+    (tie.spec fresh-requires begun-requires by-blocks-requires by-bytes-requires returns returns-2)
