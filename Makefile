@@ -1,7 +1,7 @@
 # Each target does all of its own set-up.
 export RT_JOBS ?= 2
 
-.PHONY: test list bench
+.PHONY: test list example bench
 test:
 	@tests/run
 
@@ -12,10 +12,19 @@ list:
 	@rt check listing >target/list.log 2>&1 || { cat target/list.log; exit 1; }
 	@target/bin/listing <"$(JOB)"
 
-# Measures the proved chunker beside plain implementations of the same method.
+# Admits a label and its revision to one store, from C, and rebuilds both.
+example:
+	@mkdir -p target/example
+	@rt staticlib hirunvel >target/example/staticlib.log 2>&1 || { cat target/example/staticlib.log; exit 1; }
+	@cc -std=c99 -Iinclude -o target/example/label_revision examples/label_revision.c -Ltarget/staticlib -lhirunvel
+	@target/example/label_revision docs/example/label.zpl docs/example/label-2.zpl
+
+# Measures the library beside plain implementations of the same operations.
 bench:
 	@mkdir -p target/bench
-	@rt staticlib chunk_count >target/bench/staticlib.log 2>&1 || { cat target/bench/staticlib.log; exit 1; }
+	@for crate in hirunvel chunk_count; do rt staticlib $$crate >target/bench/staticlib.log 2>&1 \
+		|| { cat target/bench/staticlib.log; exit 1; }; done
 	@python3 bench/inputs.py target/bench
-	@rustc --edition 2021 -O -L native=target/staticlib -o target/bench/bench bench/main.rs
+	@rustc --edition 2021 -O -C llvm-args=-x86-branches-within-32B-boundaries -L native=target/staticlib \
+		-o target/bench/bench bench/main.rs
 	@target/bench/bench target/bench

@@ -1,0 +1,178 @@
+//! Admissions one after another to one store, from a fresh head on.
+
+use crate::call::compare;
+use crate::memory::{Lent, Store};
+use crate::model::{chunks, ACCEPTED, OUTPUT_SHORT};
+use crate::shrink::{shorter, smaller_bytes, without_block, Case, Smaller};
+use crate::store_calls::{Admit, Look, Rebuild, StoreOpen};
+use crate::tally::Tally;
+use std::collections::HashMap;
+
+/// One admission of a history: the job and the recipe memory that is lent.
+#[derive(Clone, Debug)]
+pub struct Step {
+    pub job: Lent<u8>,
+    pub recipe: Lent<u32>,
+}
+
+/// Admissions to a store that starts with a fresh head and with a pool and a directory of any
+/// contents.
+#[derive(Clone, Debug)]
+pub struct History {
+    pub window: u32,
+    pub pool: Lent<u8>,
+    pub directory: Lent<u32>,
+    pub steps: Vec<Step>,
+}
+
+/// A job that was accepted, with the recipe that its admission left and the bytes of its new
+/// chunks.
+pub struct Accepted<'a> {
+    pub job: &'a [u8],
+    pub recipe: Vec<u32>,
+    pub new_bytes: u64,
+}
+
+/// The number of each chunk of the accepted jobs, given in the order in which they first appear.
+type Appearances<'a> = HashMap<&'a [u8], u32>;
+
+impl History {
+    /// Makes the admissions, compares each with the model and with the chunks' first appearances,
+    /// and rebuilds every accepted job at the end. Gives the accepted jobs.
+    pub fn run(&self, tally: &mut Tally) -> Result<Vec<Accepted<'_>>, String> {
+        let (_, opened) = compare(&StoreOpen::new(self.window), tally)?;
+        let mut store = Store {
+            head: opened.head,
+            pool: self.pool.clone(),
+            directory: self.directory.clone(),
+        };
+        let mut appearances = Appearances::new();
+        let mut accepted = Vec::new();
+        for step in &self.steps {
+            let (refusal, after) = compare(&Admit::new(&store, &step.recipe, &step.job), tally)?;
+            if refusal == ACCEPTED {
+                check_appearances(&mut appearances, self.window, &step.job, &after)?;
+                accepted.push(Accepted {
+                    job: &step.job,
+                    recipe: after.written_recipe().to_vec(),
+                    new_bytes: after.counts[1],
+                });
+            }
+            store = after.store;
+        }
+        for (index, job) in accepted.iter().enumerate() {
+            check_rebuilt(&store, job, index % 3, tally)?;
+        }
+        Ok(accepted)
+    }
+
+    /// Histories with fewer admissions, shorter jobs or less memory.
+    pub fn smaller_histories(&self) -> impl Iterator<Item = Self> + '_ {
+        let fewer = without_block(&self.steps).map(|steps| History {
+            steps,
+            ..self.clone()
+        });
+        let steps = (0..self.steps.len()).flat_map(move |index| {
+            let Step { job, recipe } = &self.steps[index];
+            let jobs = smaller_bytes(job).map(|job| Step {
+                job: Lent::new(&job),
+                recipe: recipe.clone(),
+            });
+            let recipes = shorter(recipe).map(|recipe| Step {
+                job: job.clone(),
+                recipe,
+            });
+            recipes.chain(jobs).map(move |step| {
+                let mut smaller = self.clone();
+                smaller.steps[index] = step;
+                smaller
+            })
+        });
+        let pools = shorter(&self.pool).map(|pool| History {
+            pool,
+            ..self.clone()
+        });
+        let directories = shorter(&self.directory).map(|directory| History {
+            directory,
+            ..self.clone()
+        });
+        fewer.chain(pools).chain(directories).chain(steps)
+    }
+}
+
+impl Case for History {
+    fn check(&self, tally: &mut Tally) -> Result<(), String> {
+        self.run(tally).map(|_| ())
+    }
+
+    fn smaller(&self) -> Smaller<'_, Self> {
+        Box::new(self.smaller_histories())
+    }
+}
+
+/// Compares the answer of an accepted admission with the first appearances of its chunks.
+fn check_appearances<'a>(
+    appearances: &mut Appearances<'a>,
+    window: u32,
+    job: &'a [u8],
+    after: &Admit,
+) -> Result<(), String> {
+    let mut recipe = Vec::new();
+    let mut new_bytes = 0;
+    for chunk in chunks::chunks(window, job) {
+        let next = appearances.len() as u32;
+        let number = *appearances.entry(chunk).or_insert(next);
+        if number == next {
+            new_bytes += chunk.len() as u64;
+        }
+        recipe.push(number);
+    }
+    let answer = (
+        after.written_recipe(),
+        after.counts[1],
+        after.counts[1] + after.counts[2],
+    );
+    let expected = (&recipe[..], new_bytes, job.len() as u64);
+    if answer == expected {
+        return Ok(());
+    }
+    Err(format!(
+        "Recipe, new bytes and job length are {answer:?} by the library, \
+         {expected:?} by the first appearances."
+    ))
+}
+
+/// Rebuilds an accepted job, with some bytes of output to spare, and looks at its first chunk. An
+/// output that is one byte too short must be refused.
+fn check_rebuilt(
+    store: &Store,
+    job: &Accepted,
+    spare: usize,
+    tally: &mut Tally,
+) -> Result<(), String> {
+    let output: Vec<u8> = (0..job.job.len() + spare)
+        .map(|index| index as u8 ^ 0x5C)
+        .collect();
+    let rebuild = Rebuild::new(store, &job.recipe, &Lent::new(&output));
+    let (refusal, after) = compare(&rebuild, tally)?;
+    if refusal != ACCEPTED || after.output[..job.job.len()] != *job.job {
+        return Err(format!(
+            "The recipe does not give back its job, refusal {refusal}: {after:#?}"
+        ));
+    }
+    let short = Rebuild::new(store, &job.recipe, &Lent::new(&output[..job.job.len() - 1]));
+    let (refusal, _) = compare(&short, tally)?;
+    if refusal != OUTPUT_SHORT {
+        return Err(format!(
+            "An output that is too short gives refusal {refusal}: {short:#?}"
+        ));
+    }
+    let (refusal, after) = compare(&Look::new(store, job.recipe[0]), tally)?;
+    let [offset, length] = [0, 1].map(|index| after.stretch[index] as usize);
+    if refusal != ACCEPTED || store.pool[offset..offset + length] != job.job[..length] {
+        return Err(format!(
+            "The first chunk is not the job's beginning, refusal {refusal}: {after:#?}"
+        ));
+    }
+    Ok(())
+}

@@ -1,0 +1,194 @@
+//! Jobs, pools, directories, recipes and chunks at their limits and one past them.
+
+use crate::call::{compare, Call};
+use crate::memory::{Lent, Store};
+use crate::model::*;
+use crate::random::Random;
+use crate::scanner_calls::Feed;
+use crate::shrink::shrink;
+use crate::store_calls::{Admit, Look, Rebuild};
+use crate::tally::Tally;
+
+/// Checks them all.
+pub fn run(random: &mut Random, tally: &mut Tally) -> Result<(), String> {
+    longest_jobs(random, tally)?;
+    longest_recipes(random, tally)?;
+    longest_pools(random, tally)?;
+    longest_directories(random, tally)?;
+    longest_chunks(tally)?;
+    sums_past_32_bits(tally)
+}
+
+/// Compares a call and checks that it ends with this refusal. Gives the call as it was left.
+fn expect<C: Call>(call: &C, refusal: u32, tally: &mut Tally) -> Result<C, String> {
+    match compare(call, tally) {
+        Ok((found, after)) if found == refusal => Ok(after),
+        Ok((found, _)) => Err(format!("Refusal {found} came and not {refusal}: {call:#?}")),
+        Err(fault) => Err(shrink(call, fault)),
+    }
+}
+
+/// Admits a job with a recipe memory of some numbers.
+fn admit(
+    store: &Store,
+    places: usize,
+    job: &[u8],
+    refusal: u32,
+    tally: &mut Tally,
+) -> Result<Admit, String> {
+    expect(
+        &Admit::new(store, &Lent::new(&used(places)), job),
+        refusal,
+        tally,
+    )
+}
+
+/// Looks at a chunk.
+fn look(store: &Store, number: u32, refusal: u32, tally: &mut Tally) -> Result<Look, String> {
+    expect(&Look::new(store, number), refusal, tally)
+}
+
+/// Rebuilds a job with an output of some bytes.
+fn rebuild(
+    store: &Store,
+    recipe: &[u32],
+    output: usize,
+    refusal: u32,
+    tally: &mut Tally,
+) -> Result<Rebuild, String> {
+    expect(
+        &Rebuild::new(store, recipe, &Lent::new(&used(output))),
+        refusal,
+        tally,
+    )
+}
+
+/// Memory that holds something else than zeros.
+fn used<T: Clone + From<u8>>(length: usize) -> Vec<T> {
+    vec![T::from(0x77); length]
+}
+
+/// Jobs of 16,777,216 bytes, new and repeated, and of one byte more.
+fn longest_jobs(random: &mut Random, tally: &mut Tally) -> Result<(), String> {
+    let mut job = random.bytes(JOB_LIMIT);
+    let fresh = Store::new([1_024, 0, 0], &used(JOB_LIMIT), &used(60_000));
+    let after = admit(&fresh, 30_000, &job, ACCEPTED, tally)?;
+    let (store, recipe) = (&after.store, after.written_recipe());
+    rebuild(store, recipe, JOB_LIMIT, ACCEPTED, tally)?;
+    rebuild(store, recipe, JOB_LIMIT - 1, OUTPUT_SHORT, tally)?;
+    admit(store, 30_000, &job, ACCEPTED, tally)?;
+    job[JOB_LIMIT / 2] ^= 0x80;
+    admit(store, 30_000, &job, POOL_FULL, tally)?;
+    job.push(0);
+    admit(store, 30_000, &job, JOB_LENGTH, tally)?;
+    expect(&Feed::new(&[1_024, 0, 0, 0], &job), ACCEPTED, tally)?;
+    Ok(())
+}
+
+/// Jobs of 65,535 and 65,536 chunks with the smallest and with a large window, and recipes of as
+/// many numbers.
+fn longest_recipes(random: &mut Random, tally: &mut Tally) -> Result<(), String> {
+    for window in [1, 255] {
+        let chunk = window as usize + 1;
+        let fresh = Store::new([window, 0, 0], &used(2_000), &used(10));
+        let job = vec![random.byte(); chunk * (RECIPE_LIMIT + 1)];
+        let fitting = &job[chunk..];
+        let after = admit(&fresh, RECIPE_LIMIT, fitting, ACCEPTED, tally)?;
+        admit(&fresh, RECIPE_LIMIT - 1, fitting, RECIPE_FULL, tally)?;
+        admit(&fresh, RECIPE_LIMIT, &job, RECIPE_FULL, tally)?;
+        admit(&fresh, RECIPE_LIMIT + 1, fitting, MEMORY_LIMIT, tally)?;
+        let store = &after.store;
+        rebuild(store, &after.recipe, job.len(), ACCEPTED, tally)?;
+        let over = [&after.recipe[..], &[0]].concat();
+        rebuild(store, &over, job.len(), MEMORY_LIMIT, tally)?;
+        let mut wrong = after.recipe.to_vec();
+        wrong[RECIPE_LIMIT - 1] = store.chunks();
+        rebuild(store, &wrong, job.len(), CHUNK_NUMBER, tally)?;
+        rebuild(store, &wrong, 10, CHUNK_NUMBER, tally)?;
+    }
+    Ok(())
+}
+
+/// A pool of 67,108,864 bytes that is full, or full but for one chunk, and one of a byte more.
+fn longest_pools(random: &mut Random, tally: &mut Tally) -> Result<(), String> {
+    let length = POOL_LIMIT / 256;
+    let chunks: Vec<Vec<u8>> = (0..256).map(|_| random.bytes(length)).collect();
+    let job = vec![0x11; 1_025];
+    let full = Store::of_chunks(1_024, &chunks, &[], &used(4));
+    admit(&full, 3, &job, POOL_FULL, tally)?;
+    look(&full, 255, ACCEPTED, tally)?;
+    rebuild(&full, &[255, 0], 2 * length, ACCEPTED, tally)?;
+    let over = Store::of_chunks(1_024, &chunks, &[0], &used(4));
+    admit(&over, 3, &job, MEMORY_LIMIT, tally)?;
+    look(&over, 255, MEMORY_LIMIT, tally)?;
+    rebuild(&over, &[255, 0], 2 * length, MEMORY_LIMIT, tally)?;
+    let mut roomy = full;
+    for (spare, refusal) in [(1_024, POOL_FULL), (1_025, ACCEPTED)] {
+        roomy.head[2] = (POOL_LIMIT - spare) as u32;
+        roomy.directory[2 * 255 + 1] = (length - spare) as u32;
+        admit(&roomy, 3, &job, refusal, tally)?;
+    }
+    Ok(())
+}
+
+/// Directories of 131,070 numbers that are full or have one entry left, and of 131,071 and 131,072
+/// numbers.
+fn longest_directories(random: &mut Random, tally: &mut Tally) -> Result<(), String> {
+    let entries = DIRECTORY_LIMIT / 2;
+    let chunks: Vec<Vec<u8>> = (0..entries).map(|_| random.bytes(2)).collect();
+    let full = Store::of_chunks(1, &chunks, &used(20), &[]);
+    let roomy = Store::of_chunks(1, &chunks[1..], &used(20), &used(2));
+    let one_new = [0, 1, 2, 3, 0];
+    let two_new = [0, 1, 2, 3, 0, 7, 8, 9, 0];
+    admit(&full, 5, &chunks[40_000], ACCEPTED, tally)?;
+    admit(&full, 5, &one_new, DIRECTORY_FULL, tally)?;
+    admit(&roomy, 5, &one_new, ACCEPTED, tally)?;
+    admit(&roomy, 5, &two_new, DIRECTORY_FULL, tally)?;
+    look(&full, 65_534, ACCEPTED, tally)?;
+    look(&full, 65_535, CHUNK_NUMBER, tally)?;
+    rebuild(&full, &[65_534, 0], 4, ACCEPTED, tally)?;
+    for more in [1, 2] {
+        let over = Store::of_chunks(1, &chunks, &used(20), &used(more));
+        admit(&over, 5, &one_new, MEMORY_LIMIT, tally)?;
+        look(&over, 0, MEMORY_LIMIT, tally)?;
+        rebuild(&over, &[0], 4, MEMORY_LIMIT, tally)?;
+    }
+    Ok(())
+}
+
+/// Chunks of 262,145 bytes, the longest there are, which differ in their last byte.
+fn longest_chunks(tally: &mut Tally) -> Result<(), String> {
+    let longest = longest_chunk(1_024) as usize;
+    let rise: Vec<u8> = (0..=255).flat_map(|byte| [byte; 1_024]).collect();
+    let job = [&rise[..], &[0], &rise[..], &[1]].concat();
+    let uncut = expect(&Feed::new(&[1_024, 0, 0, 0], &rise), ACCEPTED, tally)?;
+    let last = expect(&Feed::new(&uncut.scanner, &[255, 255]), ACCEPTED, tally)?;
+    let cut = expect(&Feed::new(&[1_024, 0, 0, 0], &job), ACCEPTED, tally)?;
+    let fed = [&uncut.fed[..], &last.fed, &cut.fed].concat();
+    if fed != [longest as u64 - 1, 0, 1, 1, longest as u64, 1] {
+        return Err(format!("The feeds of the longest chunk give {fed:?}."));
+    }
+    let fresh = Store::new([1_024, 0, 0], &used(2 * longest), &used(4));
+    let after = admit(&fresh, 2, &job, ACCEPTED, tally)?;
+    rebuild(&after.store, &[1, 0], job.len() + 1, ACCEPTED, tally)?;
+    admit(&fresh, 1, &job, RECIPE_FULL, tally)?;
+    let tight = Store::new([1_024, 0, 0], &used(2 * longest - 1), &used(4));
+    admit(&tight, 2, &job, POOL_FULL, tally)?;
+    Ok(())
+}
+
+/// A rebuilt length, and the end of a store, that are 0 in 32 bits.
+fn sums_past_32_bits(tally: &mut Tally) -> Result<(), String> {
+    let length = 262_144;
+    let count = (1 << 32) / length;
+    let store = Store::of_chunks(1_024, &[used(length)], &[], &[]);
+    rebuild(&store, &vec![0; count], 40, OUTPUT_SHORT, tally)?;
+    let directory: Vec<u32> = (0..count)
+        .flat_map(|entry| [(entry * length) as u32, length as u32])
+        .collect();
+    let wrapped = Store::new([1_024, count as u32, 0], &used(40), &directory);
+    admit(&wrapped, 4, &[1, 2, 3], HEAD, tally)?;
+    look(&wrapped, 0, HEAD, tally)?;
+    rebuild(&wrapped, &[0], 40, HEAD, tally)?;
+    Ok(())
+}

@@ -1,0 +1,190 @@
+//! The calls on a store.
+
+use crate::call::{unwritten, Call};
+use crate::library;
+use crate::memory::{Lent, Store};
+use crate::model::store;
+use crate::shrink::{shorter, smaller_bytes, smaller_stores, without_block, Smaller};
+use crate::tally::Operation;
+
+/// Opening a store.
+#[derive(Clone, PartialEq, Debug)]
+pub struct StoreOpen {
+    pub window: u32,
+    pub head: Lent<u32>,
+}
+
+impl StoreOpen {
+    /// With this window.
+    pub fn new(window: u32) -> Self {
+        StoreOpen {
+            window,
+            head: unwritten(3),
+        }
+    }
+}
+
+impl Call for StoreOpen {
+    const OPERATION: Operation = Operation::StoreOpen;
+
+    fn by_library(&mut self) -> u32 {
+        library::store_open(self.window, &mut self.head)
+    }
+
+    fn by_model(&mut self) -> u32 {
+        store::open(self.window, &mut self.head)
+    }
+
+    fn smaller_calls(&self) -> Smaller<'_, Self> {
+        Box::new(std::iter::empty())
+    }
+}
+
+/// Admitting a job to a store.
+#[derive(Clone, PartialEq, Debug)]
+pub struct Admit {
+    pub store: Store,
+    pub recipe: Lent<u32>,
+    pub job: Lent<u8>,
+    pub counts: Lent<u64>,
+    pub saving: Lent<i64>,
+}
+
+impl Admit {
+    /// Of this job to this store, with this memory for the recipe.
+    pub fn new(store: &Store, recipe: &Lent<u32>, job: &[u8]) -> Self {
+        Admit {
+            store: store.clone(),
+            recipe: recipe.clone(),
+            job: Lent::new(job),
+            counts: unwritten(3),
+            saving: unwritten(1),
+        }
+    }
+
+    /// The recipe that an accepted admission left.
+    pub fn written_recipe(&self) -> &[u32] {
+        &self.recipe[..self.counts[0] as usize]
+    }
+}
+
+impl Call for Admit {
+    const OPERATION: Operation = Operation::Admit;
+
+    fn by_library(&mut self) -> u32 {
+        library::admit(
+            &mut self.store,
+            &mut self.recipe,
+            &mut self.job,
+            &mut self.counts,
+            &mut self.saving,
+        )
+    }
+
+    fn by_model(&mut self) -> u32 {
+        store::admit(
+            &mut self.store,
+            &mut self.recipe,
+            &self.job,
+            &mut self.counts,
+            &mut self.saving,
+        )
+    }
+
+    fn smaller_calls(&self) -> Smaller<'_, Self> {
+        let jobs = smaller_bytes(&self.job).map(|job| Admit::new(&self.store, &self.recipe, &job));
+        let recipes =
+            shorter(&self.recipe).map(|recipe| Admit::new(&self.store, &recipe, &self.job));
+        let stores =
+            smaller_stores(&self.store).map(|store| Admit::new(&store, &self.recipe, &self.job));
+        Box::new(stores.chain(recipes).chain(jobs))
+    }
+}
+
+/// Looking at a chunk.
+#[derive(Clone, PartialEq, Debug)]
+pub struct Look {
+    pub store: Store,
+    pub number: u32,
+    pub stretch: Lent<u64>,
+}
+
+impl Look {
+    /// At the chunk with this number.
+    pub fn new(store: &Store, number: u32) -> Self {
+        Look {
+            store: store.clone(),
+            number,
+            stretch: unwritten(2),
+        }
+    }
+}
+
+impl Call for Look {
+    const OPERATION: Operation = Operation::Look;
+
+    fn by_library(&mut self) -> u32 {
+        library::look(&mut self.store, self.number, &mut self.stretch)
+    }
+
+    fn by_model(&mut self) -> u32 {
+        store::look(&self.store, self.number, &mut self.stretch)
+    }
+
+    fn smaller_calls(&self) -> Smaller<'_, Self> {
+        Box::new(smaller_stores(&self.store).map(|store| Look::new(&store, self.number)))
+    }
+}
+
+/// Rebuilding a job.
+#[derive(Clone, PartialEq, Debug)]
+pub struct Rebuild {
+    pub store: Store,
+    pub recipe: Lent<u32>,
+    pub output: Lent<u8>,
+    pub written: Lent<u64>,
+}
+
+impl Rebuild {
+    /// By this recipe to this output.
+    pub fn new(store: &Store, recipe: &[u32], output: &Lent<u8>) -> Self {
+        Rebuild {
+            store: store.clone(),
+            recipe: Lent::new(recipe),
+            output: output.clone(),
+            written: unwritten(1),
+        }
+    }
+}
+
+impl Call for Rebuild {
+    const OPERATION: Operation = Operation::Rebuild;
+
+    fn by_library(&mut self) -> u32 {
+        library::rebuild(
+            &mut self.store,
+            &mut self.recipe,
+            &mut self.output,
+            &mut self.written,
+        )
+    }
+
+    fn by_model(&mut self) -> u32 {
+        store::rebuild(
+            &self.store,
+            &self.recipe,
+            &mut self.output,
+            &mut self.written,
+        )
+    }
+
+    fn smaller_calls(&self) -> Smaller<'_, Self> {
+        let stores = smaller_stores(&self.store)
+            .map(|store| Rebuild::new(&store, &self.recipe, &self.output));
+        let recipes = without_block(&self.recipe)
+            .map(|recipe| Rebuild::new(&self.store, &recipe, &self.output));
+        let outputs =
+            shorter(&self.output).map(|output| Rebuild::new(&self.store, &self.recipe, &output));
+        Box::new(stores.chain(recipes).chain(outputs))
+    }
+}
