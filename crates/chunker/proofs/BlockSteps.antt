@@ -12,7 +12,7 @@ use Rattle.chunker.specs.Scanner.{fresh}
 use Rattle.chunker.specs.Answers.{consumed}
 use Rattle.chunker.specs.Largest.{FirstAt, Picked}
 use Rattle.chunker.proofs.Blocks.{first-within}
-use Rattle.chunker.proofs.Underway.{Underway, rises-to, passes-to}
+use Rattle.chunker.proofs.Underway.{Underway, rises-to, passes-to, cuts-to}
 
 -- `end` is the deadline, or the part's end with 16 bytes left
 module _ {part : List ℕ} {w base d v i : ℕ} {asked : Fed} (u : Underway part w base d v i asked)
@@ -40,6 +40,8 @@ module _ {part : List ℕ} {w base d v i : ℕ} {asked : Fed} (u : Underway part
   notLarger : b .most ≤ v → (q : ℕ) → i ≤ q → q < b .to → getD part q 0 ≤ v
   notLarger h q l r = omega (arith, p .largest .most .bound q (omega arith) r)
 
-  pub block-passes : b .most ≤ v → (e : ℕ) → i ≤ e → e ≤ b .to → e < d → Underway part w base d v e asked
-  block-passes h e after within early =
-      passes-to u e after (omega arith) early (λ q l r. notLarger h q l (omega arith))
+  pub block-passes : b .most ≤ v → b .to < d → Underway part w base d v (b .to) asked
+  block-passes h early = passes-to u (b .to) (omega arith) (omega arith) early (notLarger h)
+
+  pub block-cuts : b .most ≤ v → b .to ≡ d → consumed (fresh w) (b .to) true ≡ asked
+  block-cuts h same = cuts-to u (b .to) same (omega arith) (notLarger h)

@@ -11,27 +11,57 @@ use Rattle.chunker.specs.declared.Fed.{Fed}
 use Rattle.chunker.specs.declared.scan.Run.{Run}
 use Rattle.chunker.specs.Scanner.{fresh}
 use Rattle.chunker.specs.Answers.{consumed, scan}
-use Rattle.chunker.specs.Run.{Going, rest, Begun, Further, Reached}
+use Rattle.chunker.specs.Run.{Going, rest, Begun, Further, Advanced, Reached}
 use Rattle.chunker.proofs.Underway.{Underway, stops, byte-rises, byte-passes}
 
--- a run is no further than itself
-pub further-none : (r : Run) (part : List ℕ) → Going r part → Further r r part
-further-none r part going = record { window = refl; going = going; gives = refl }
+-- a run further on is not at the end of the chunk
+pub advanced-on : {r next : Run} {part : List ℕ} → Further r next part → Advanced r next part
+advanced-on on =
+    record {
+      window = on .window;
+      bound = omega (arith, on .going .live);
+      cut = λ e. absurd (omega (arith, on .going .live));
+      uncut = λ _. on;
+    }
 
--- the run b begins, r is further on, and e is where the byte scan stops
-module _ {s : Scanner} {part : List ℕ} {b r e : Run} (begun : Begun s b part) (on : Further b r part)
-    (reached : Reached r e part) where
+-- nor is one that stays
+pub advanced-none : (r : Run) (part : List ℕ) → Going r part → Advanced r r part
+advanced-none r part going = advanced-on (record { window = refl; going = going; gives = refl })
+
+-- from the run b on: at its end already, or from the run r that is further on
+module _ {part : List ℕ} {b r : Run} (advanced : Advanced b r part) where
+  pub reached-already : r .deadline ≤ r .at → Reached b r part
+  reached-already end = record { advanced = advanced; short = λ h. absurd (omega arith) }
+
+  pub reached-then : {e : Run} → r .at < r .deadline → Reached r e part → Reached b e part
+  reached-then more next =
+      let on = advanced .uncut more in
+      record {
+        advanced = record {
+          window = next .advanced .window ∙ on .window;
+          bound = next .advanced .bound;
+          cut = λ h. rw (on .window) at (next .advanced .cut h ∙ on .gives);
+          uncut = λ h. let far = next .advanced .uncut h in
+              record { window = far .window ∙ on .window; going = far .going; gives = far .gives ∙ on .gives };
+        };
+        short = next .short;
+      }
+
+-- the run b begins, and e is where the scan by blocks and bytes stops
+module _ {s : Scanner} {part : List ℕ} {b e : Run} (begun : Begun s b part) (reached : Reached b e part) where
   -- the window is an allowed one
   pub small-window : e .window ≤ 1024
-  small-window = omega (arith, reached .window, on .going .high)
+  small-window = omega (arith, reached .advanced .window, begun .going .high)
 
   -- the chunk ends there
-  pub ends-chunk : e .at ≡ e .deadline → consumed (fresh (e .window)) (e .at) true ≡ scan s 0 part
-  ends-chunk h = rw (reached .window) (reached .cut h ∙ on .gives ∙ begun .gives)
+  pub ends-chunk : e .deadline ≤ e .at → consumed (fresh (e .window)) (e .at) true ≡ scan s 0 part
+  ends-chunk h =
+      let at-end : e .at ≡ e .deadline = omega (arith, reached .advanced .bound) in
+      rw (reached .advanced .window) (reached .advanced .cut at-end ∙ begun .gives)
 
   -- or the rest of the part is still to read
-  pub leaves-rest : (e .at ≡ e .deadline → ⊥) → rest e part ≡ scan s 0 part
-  leaves-rest h = reached .uncut h .0 .gives ∙ on .gives ∙ begun .gives
+  pub leaves-rest : e .at < e .deadline → rest e part ≡ scan s 0 part
+  leaves-rest h = reached .advanced .uncut h .gives ∙ begun .gives
 
 -- a part in which the chunk cannot end is consumed whole
 module _ {part : List ℕ} {w base : ℕ} {asked : Fed} (bytes : (q : ℕ) → getD part q 0 < 256) where

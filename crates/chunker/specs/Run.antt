@@ -59,8 +59,14 @@ pub record Begun (s : Scanner) (r : Run) (part : List ℕ) : Type 0 where
   pub going : Going r part
   pub gives : rest r part ≡ scan s 0 part
 
--- a run at the end of the chunk, or at a place from which the chunk cannot end in the part
-pub record Reached (r next : Run) (part : List ℕ) : Type 0 where
+-- a run further on in the part, or at the end of the chunk
+pub record Advanced (r next : Run) (part : List ℕ) : Type 0 where
   pub window : next .window ≡ r .window
+  pub bound : next .at ≤ next .deadline
   pub cut : next .at ≡ next .deadline → consumed (fresh (r .window)) (next .at) true ≡ rest r part
-  pub uncut : (next .at ≡ next .deadline → ⊥) → Further r next part × (length part < next .deadline)
+  pub uncut : next .at < next .deadline → Further r next part
+
+-- the same, where a chunk that does not end there cannot end in the part
+pub record Reached (r next : Run) (part : List ℕ) : Type 0 where
+  pub advanced : Advanced r next part
+  pub short : next .at < next .deadline → length part < next .deadline

@@ -6,7 +6,7 @@ ghost use mathlib.Core.Bool.{true, false};
 ghost use Rattle.refusal.specs.declared.Refusal.the-variants.{Accepted};
 ghost use Rattle.chunker.specs.Scanner.{windowAllowed, fresh, groundOf};
 ghost use Rattle.chunker.specs.Answers.{scan, consumed};
-ghost use Rattle.chunker.specs.Run.{standing, Going, rest, Begun, Further, Passed, Reached};
+ghost use Rattle.chunker.specs.Run.{standing, Going, rest, Begun, Passed, Advanced, Reached};
 use crate::Fed;
 use crate::Scanner;
 use crate::fresh;
@@ -25,8 +25,8 @@ pub struct Run {
     pub at: usize,
 }
 
-// Moves an accepted scanner on over a part: a block at a time where a window holds one, then byte by
-// byte.
+// Moves an accepted scanner on over a part. Where a window holds several blocks, the part is passed
+// by them first; then it goes byte by byte.
 pub fn scan(scanner: Scanner, part: &[u8]) -> Fed
     requires { ⌜ groundOf scanner ≡ Accepted ⌝ }
     ensures { λ r. ⌜ r ≡ scan scanner 0 (now (part .entry)) ⌝ }
@@ -40,14 +40,18 @@ pub fn scan(scanner: Scanner, part: &[u8]) -> Fed
         };
     }
     let mut run = begun(scanner, part);
-    if 16 <= run.window {
-        run = by_blocks(run, part);
+    if 64 <= run.window {
+        let given = run;
+        let passed = by_blocks(given, part);
+        run = passed;
     }
-    run = by_bytes(run, part);
-    if run.at == run.deadline {
-        return cut(run.window, run.at);
+    if run.at < run.deadline {
+        run = by_bytes(run, part);
     }
-    to_end(run, part)
+    if run.at < run.deadline {
+        return to_end(run, part);
+    }
+    cut(run.window, run.at)
 }
 
 // The length of the first chunk of a job that is not empty.
@@ -58,13 +62,17 @@ pub fn first_chunk(window: u32, job: &[u8]) -> usize
 {
     let mut run = begun(fresh(window), job);
     if 16 <= run.window {
-        run = by_blocks(run, job);
+        let given = run;
+        let passed = by_blocks(given, job);
+        run = passed;
     }
-    run = by_bytes(run, job);
-    if run.at == run.deadline {
-        return run.at;
+    if run.at < run.deadline {
+        run = by_bytes(run, job);
     }
-    job.len()
+    if run.at < run.deadline {
+        return job.len();
+    }
+    run.at
 }
 
 // The start of a scan. The first byte of a chunk is its largest so far.
@@ -194,11 +202,11 @@ fn to_end(run: Run, part: &[u8]) -> Fed
 
 // A block at a time, as long as blocks are left: of the bytes up to the deadline only the first of the
 // largest can matter. The last block before the deadline reaches back over bytes that are not larger
-// than `value`; where it has no larger byte, the one at the deadline is left.
+// than `value`.
 fn by_blocks(run: Run, part: &[u8]) -> Run
     requires { ⌜ Going run (now part) ⌝ }
     requires { ⌜ 16 ≤ run .window ⌝ }
-    ensures { λ r. ⌜ Further run r (now (part .entry)) ⌝ }
+    ensures { λ r. ⌜ Advanced run r (now (part .entry)) ⌝ }
 {
     let mut run = run;
     while run.at < part.len() {
@@ -213,16 +221,14 @@ fn by_blocks(run: Run, part: &[u8]) -> Run
             }
         }
         let block = largest::pick(part, run.at, end);
+        run.at = block.to;
         if block.most > run.value {
-            run.at = block.to;
             run.value = block.most;
             run.deadline = largest::first_of(part, block) + 1 + run.window;
         } else {
-            if block.to == run.deadline {
-                run.at = block.to - 1;
+            if run.at == run.deadline {
                 return run;
             }
-            run.at = block.to;
         }
     }
     run

@@ -11,7 +11,8 @@ use Rattle.chunker.specs.declared.scan.Run.{Run}
 use Rattle.chunker.specs.Run.{rest}
 use Rattle.chunker.proofs.Underway.{Underway, less-left}
 use Rattle.chunker.proofs.Blocks.{first-within}
-use Rattle.chunker.proofs.BlockSteps.{block-rises, block-passes}
+use Rattle.chunker.proofs.BlockSteps.{block-rises, block-passes, block-cuts}
+use Rattle.chunker.proofs.ScanEnds.{advanced-on}
 use Rattle.chunker.proofs.scan.by_blocks.Statement.{statement}
 use Rattle.chunker.proofs.scan.by_blocks.Tie as tie
 
@@ -54,7 +55,7 @@ lesser-requires c κs = search needs
 returns : tie.Need-returns Inv-loop μ-loop
 returns c =
     let u = further (c .before .before) in
-    record { window = same-window (c .before .before); going = u .order; gives = u .gives }
+    advanced-on (record { window = same-window (c .before .before); going = u .order; gives = u .gives })
 
 sub-if4 : tie.Need-sub-if4 Inv-loop μ-loop
 sub-if4 c = omega (arith, inside (c .before .before .before .before .before))
@@ -62,7 +63,7 @@ sub-if4 c = omega (arith, inside (c .before .before .before .before .before))
 returns-2 : tie.Need-returns-2 Inv-loop μ-loop
 returns-2 c =
     let u = further (c .before .before .before .before .before .before) in
-    record { window = same-window (c .before .before .before .before .before .before); going = u .order; gives = u .gives }
+    advanced-on (record { window = same-window (c .before .before .before .before .before .before); going = u .order; gives = u .gives })
 
 -- the end is the deadline, or at least 16 bytes away
 room : (c : tie.Joined3 Inv-loop μ-loop)
@@ -105,36 +106,37 @@ loop-again c =
           (c .before .first-of .result) _ (c .before .first-of .ensures) (c .before .before .if5 .taken) (omega arith) (omega arith),
     )
 
-sub-run : tie.Need-sub-run Inv-loop μ-loop
-sub-run c = omega (arith, c .before .before .before .before .before .before .before .pick .ensures .on)
-
 returns-3 : tie.Need-returns-3 Inv-loop μ-loop
 returns-3 c =
-    let joined = c .before .before .before .before .before .before .before .before in
-    let on = c .before .before .before .before .before .before .before .pick .ensures .on in
-    let due = c .before .if6 .taken in
-    let u = block-passes (further (c .before .before .before .before .before .before .before .before .before .before .before .before)) _ _ (c .before .before .before .before .before .before .before .pick .ensures) (wide joined) (omega arith) (omega arith) (room joined)
-    (c .before .before .before .before .if5 .left) (c .before .before .before .before .before .before .before .pick .result .to - 1) (omega arith) (omega arith) (omega arith) in
-    record { window = same-window (c .before .before .before .before .before .before .before .before .before .before .before .before); going = u .order; gives = u .gives }
+    let joined = c .before .before .before .before .before .before in
+    let due = c .if6 .taken in
+    let cut = block-cuts (further (c .before .before .before .before .before .before .before .before .before .before)) _ _ (c .before .before .before .before .before .pick .ensures) (wide joined) (omega arith) (omega arith) (room joined)
+    (c .before .before .if5 .left) due in
+    record {
+      window = same-window (c .before .before .before .before .before .before .before .before .before .before);
+      bound = omega arith;
+      cut = λ _. rw (same-window (c .before .before .before .before .before .before .before .before .before .before)) at cut;
+      uncut = λ h. absurd (omega arith);
+    }
 
 loop-less-2 : tie.Need-loop-less-2 Inv-loop μ-loop
 loop-less-2 c =
-    less-left _ _ _ (c .before .before .before .before .before .before .before .before .before .before .before .before .if1 .taken) (omega (arith, c .before .before .before .before .before .before .pick .ensures .on, c .before .before .before .before .before .before .before .before .before .before .before .by-large-blocks .ensures .on))
+    less-left _ _ _ (c .before .before .before .before .before .before .before .before .before .before .before .if1 .taken) (omega (arith, c .before .before .before .before .before .pick .ensures .on, c .before .before .before .before .before .before .before .before .before .before .by-large-blocks .ensures .on))
 
 loop-again-2 : tie.Need-loop-again-2 Inv-loop μ-loop
 loop-again-2 c =
-    let joined = c .before .before .before .before .before .before .before in
+    let joined = c .before .before .before .before .before .before in
     let early = c .if6 .left in (
-      c .before .before .before .before .before .before .before .before .before .before .before .before .before .before .loop .inv .0,
-      same-window (c .before .before .before .before .before .before .before .before .before .before .before),
-      block-passes (further (c .before .before .before .before .before .before .before .before .before .before .before)) _ _ (c .before .before .before .before .before .before .pick .ensures) (wide joined) (omega arith) (omega arith) (room joined)
-          (c .before .before .before .if5 .left) _ (omega (arith, c .before .before .before .before .before .before .pick .ensures .on)) (omega arith) (omega arith),
+      c .before .before .before .before .before .before .before .before .before .before .before .before .before .loop .inv .0,
+      same-window (c .before .before .before .before .before .before .before .before .before .before),
+      block-passes (further (c .before .before .before .before .before .before .before .before .before .before)) _ _ (c .before .before .before .before .before .pick .ensures) (wide joined) (omega arith) (omega arith) (room joined)
+          (c .before .before .if5 .left) (omega arith),
     )
 
 returns-4 : tie.Need-returns-4 Inv-loop μ-loop
 returns-4 c =
     let inv = c .before .before .loop .inv in
-    record { window = inv .1; going = inv .2 .order; gives = inv .2 .gives }
+    advanced-on (record { window = inv .1; going = inv .2 .order; gives = inv .2 .gives })
 
 pub by-blocks-spec : {M : Type 1} → statement M
 by-blocks-spec =
@@ -154,7 +156,6 @@ by-blocks-spec =
     add-run-2
     loop-less
     loop-again
-    sub-run
     returns-3
     loop-less-2
     loop-again-2

@@ -24,10 +24,15 @@ next-larger-requires c κs = omega arith
 returns : tie.Need-returns Inv-loop μ-loop
 returns c =
     let next = c .before .next-larger .ensures in
+    let due = c .if1 .taken in
     record {
-      window = refl;
-      cut = λ _. cuts-to (c .before .before .before .loop .inv) _ (c .if1 .taken) (omega arith) (next .before);
-      uncut = λ other. absurd (other (c .if1 .taken));
+      advanced = record {
+        window = refl;
+        bound = omega arith;
+        cut = λ _. cuts-to (c .before .before .before .loop .inv) _ due (omega arith) (next .before);
+        uncut = λ h. absurd (omega arith);
+      };
+      short = λ h. absurd (omega arith);
     }
 
 shared-slice-read-value : tie.Need-shared-slice-read-value Inv-loop μ-loop
@@ -55,9 +60,13 @@ returns-2 : tie.Need-returns-2 Inv-loop μ-loop
 returns-2 c =
     let inv = c .before .loop .inv in
     record {
-      window = refl;
-      cut = λ e. absurd (omega (arith, inv .order .live));
-      uncut = λ _. (record { window = refl; going = inv .order; gives = inv .gives }, c .loop-test .left);
+      advanced = record {
+        window = refl;
+        bound = omega (arith, inv .order .live);
+        cut = λ e. absurd (omega (arith, inv .order .live));
+        uncut = λ _. record { window = refl; going = inv .order; gives = inv .gives };
+      };
+      short = λ _. c .loop-test .left;
     }
 
 pub by-bytes-spec : {M : Type 1} → statement M

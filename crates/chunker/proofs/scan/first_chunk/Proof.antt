@@ -4,9 +4,9 @@ use mathlib.Core.Path.{sym, ap, _∙_}
 use mathlib.Core.Logic.{⊎-elim}
 use borrow.Author.Needs.{needs}
 use Rattle.chunker.specs.Scanner.{fresh}
-use Rattle.chunker.specs.Run.{Begun, Further}
+use Rattle.chunker.specs.Run.{Begun, Advanced, Reached}
 use Rattle.chunker.proofs.Soundness.{fresh-ground}
-use Rattle.chunker.proofs.ScanEnds.{further-none, ends-chunk, leaves-rest, consumes-part}
+use Rattle.chunker.proofs.ScanEnds.{advanced-none, reached-already, reached-then, ends-chunk, leaves-rest, consumes-part}
 use Rattle.chunker.proofs.scan.first_chunk.Statement.{statement}
 use Rattle.chunker.proofs.scan.first_chunk.Tie as tie
 
@@ -25,26 +25,33 @@ begins : (c : tie.After-begun) → let a = c .before .before .before .args in Be
 begins c = rw (c .before .fresh .ensures) at (c .begun .ensures)
 
 -- the run after the blocks, if any
-further : (c : tie.Joined1) →
-    Further (c .before .before .begun .result) (c .if1 .run) (c .before .before .before .before .before .args .job .now)
-further c =
+advanced : (c : tie.Joined1) →
+    Advanced (c .before .before .begun .result) (c .if1 .run) (c .before .before .before .before .before .args .job .now)
+advanced c =
     ⊎-elim (λ blocks. rw (blocks .2) (blocks .1 .ensures))
-    (λ none. rw (none .1) (further-none _ _ (c .before .before .begun .ensures .going))) (c .if1 .came)
+    (λ none. rw (none .1) (advanced-none _ _ (c .before .before .begun .ensures .going))) (c .if1 .came)
+
+-- the run after the bytes, if any
+reached : (c : tie.Joined2) →
+    Reached (c .before .before .before .before .begun .result) (c .if2 .run) (c .before .before .before .before .before .before .before .args .job .now)
+reached c =
+    let before = advanced (c .before .before) in
+    ⊎-elim (λ bytes. rw (bytes .2) (reached-then before (bytes .0 .taken) (bytes .1 .ensures)))
+    (λ none. rw (none .1) (reached-already before (none .0 .left))) (c .if2 .came)
 
 by-bytes-requires : tie.Need-by-bytes-requires
-by-bytes-requires c κs = further c .going
+by-bytes-requires c κs = advanced (c .before .before) .uncut (c .if2 .taken) .going
 
 returns : tie.Need-returns
 returns c =
-    ap (λ f. f .consumed)
-    (ends-chunk (begins (c .before .before .before .before .before)) (further (c .before .before .before)) (c .before .before .by-bytes .ensures) (c .if2 .taken))
+    let r = reached (c .before .before) in
+    let going = r .advanced .uncut (c .if3 .taken) .going in
+    let whole = consumes-part (c .before .before .if2 .run) (c .before .before .before .before .before .before .before .before .before .args .job .now) (λ q. omega (arith, c .before .before .before .before .before .before .before .before .shared-slice-known .given q)) going (r .short (c .if3 .taken)) in
+    sym whole ∙ ap (λ f. f .consumed) (leaves-rest (begins (c .before .before .before .before .before .before)) r (c .if3 .taken))
 
 returns-2 : tie.Need-returns-2
 returns-2 c =
-    let uncut = c .before .before .by-bytes .ensures .uncut (c .if2 .left) in
-    let whole = consumes-part (c .before .before .by-bytes .result) (c .before .before .before .before .before .before .before .before .args .job .now) (λ q. omega (arith, c .before .before .before .before .before .before .before .shared-slice-known .given q)) (uncut .0 .going) (uncut .1) in
-    let rest = leaves-rest (begins (c .before .before .before .before .before)) (further (c .before .before .before)) (c .before .before .by-bytes .ensures) (c .if2 .left) in
-    sym whole ∙ ap (λ f. f .consumed) rest
+    ap (λ f. f .consumed) (ends-chunk (begins (c .before .before .before .before .before .before)) (reached (c .before .before)) (c .if3 .left))
 
 pub first-chunk-spec : {M : Type 1} → statement M
 first-chunk-spec =

@@ -3,9 +3,9 @@ use native.Mathlib.Omega.{arith}
 use mathlib.Core.Path.{_∙_}
 use mathlib.Core.Logic.{⊎-elim}
 use borrow.Author.Needs.{needs}
-use Rattle.chunker.specs.Run.{Further}
+use Rattle.chunker.specs.Run.{Advanced, Reached}
 use Rattle.chunker.proofs.Scanning.{stays}
-use Rattle.chunker.proofs.ScanEnds.{further-none, small-window, ends-chunk, leaves-rest}
+use Rattle.chunker.proofs.ScanEnds.{advanced-none, reached-already, reached-then, small-window, ends-chunk, leaves-rest}
 use Rattle.chunker.proofs.scan.scan.Statement.{statement}
 use Rattle.chunker.proofs.scan.scan.Tie as tie
 
@@ -19,32 +19,36 @@ by-blocks-requires : tie.Need-by-blocks-requires
 by-blocks-requires c κs = search needs
 
 -- the run after the blocks, if any
-further : (c : tie.Joined2) →
-    Further (c .before .before .begun .result) (c .if2 .run) (c .before .before .before .before .before .args .part .now)
-further c =
+advanced : (c : tie.Joined2) →
+    Advanced (c .before .before .begun .result) (c .if2 .run) (c .before .before .before .before .before .args .part .now)
+advanced c =
     ⊎-elim (λ blocks. rw (blocks .2) (blocks .1 .ensures))
-    (λ none. rw (none .1) (further-none _ _ (c .before .before .begun .ensures .going))) (c .if2 .came)
+    (λ none. rw (none .1) (advanced-none _ _ (c .before .before .begun .ensures .going))) (c .if2 .came)
+
+-- the run after the bytes, if any
+reached : (c : tie.Joined3) →
+    Reached (c .before .before .before .before .begun .result) (c .if3 .run) (c .before .before .before .before .before .before .before .args .part .now)
+reached c =
+    let before = advanced (c .before .before) in
+    ⊎-elim (λ bytes. rw (bytes .2) (reached-then before (bytes .0 .taken) (bytes .1 .ensures)))
+    (λ none. rw (none .1) (reached-already before (none .0 .left))) (c .if3 .came)
 
 by-bytes-requires : tie.Need-by-bytes-requires
-by-bytes-requires c κs = further c .going
-
-cut-requires : tie.Need-cut-requires
-cut-requires c κs =
-    omega (arith, small-window (c .before .before .before .before .before .begun .ensures) (further (c .before .before .before)) (c .before .before .by-bytes .ensures))
-
-returns-2 : tie.Need-returns-2
-returns-2 c =
-    c .cut .ensures
-    ∙ ends-chunk (c .before .before .before .before .before .before .begun .ensures) (further (c .before .before .before .before)) (c .before .before .before .by-bytes .ensures) (c .before .if3 .taken)
+by-bytes-requires c κs = advanced (c .before .before) .uncut (c .if3 .taken) .going
 
 to-end-requires : tie.Need-to-end-requires
 to-end-requires c κs =
-    let rest = c .before .before .by-bytes .ensures .uncut (c .if3 .left) in (rest .0 .going, rest .1)
+    let r = reached (c .before .before) in (r .advanced .uncut (c .if4 .taken) .going, r .short (c .if4 .taken))
+
+returns-2 : tie.Need-returns-2
+returns-2 c =
+    c .to-end .ensures ∙ leaves-rest (c .before .before .before .before .before .before .before .begun .ensures) (reached (c .before .before .before)) (c .before .if4 .taken)
+
+cut-requires : tie.Need-cut-requires
+cut-requires c κs = omega (arith, small-window (c .before .before .before .before .before .before .begun .ensures) (reached (c .before .before)))
 
 returns-3 : tie.Need-returns-3
-returns-3 c =
-    c .to-end .ensures
-    ∙ leaves-rest (c .before .before .before .before .before .before .begun .ensures) (further (c .before .before .before .before)) (c .before .before .before .by-bytes .ensures) (c .before .if3 .left)
+returns-3 c = c .cut .ensures ∙ ends-chunk (c .before .before .before .before .before .before .before .begun .ensures) (reached (c .before .before .before)) (c .before .if4 .left)
 
 pub scan-spec : {M : Type 1} → statement M
 scan-spec =
@@ -54,7 +58,7 @@ scan-spec =
     begun-requires
     by-blocks-requires
     by-bytes-requires
-    cut-requires
-    returns-2
     to-end-requires
+    returns-2
+    cut-requires
     returns-3)
