@@ -7,6 +7,7 @@ use mathlib.Core.Bool.{true}
 use mathlib.Core.List.{List}
 use lib.ListN.{length, take, drop, length-drop}
 use lib.Seq.{drop-drop, drop-length}
+use Rattle.chunker.specs.declared.Fed.{Fed}
 use Rattle.chunker.specs.Scanner.{windowAllowed, fresh}
 use Rattle.chunker.specs.Answers.{fed}
 use Rattle.chunker.specs.Chunks.{chunks}
@@ -20,10 +21,10 @@ pub record Counted (w : ℕ) (job : List ℕ) (n at : ℕ) : Type 0 where
   pub few : n ≤ at
   pub counts : n + length (chunks w (drop at job)) ≡ chunkCount w job
 
--- The next chunk, of k bytes, is one more
-pub record Turned (w : ℕ) (job : List ℕ) (n at k : ℕ) : Type 0 where
-  pub moves : 1 ≤ k
-  pub on : Counted w job (n + 1) (at + k)
+-- The feed whose answer is f takes one chunk more
+pub record Turned (w : ℕ) (job : List ℕ) (n at : ℕ) (f : Fed) : Type 0 where
+  pub moves : 1 ≤ f .consumed
+  pub on : Counted w job (n + 1) (at + f .consumed)
 
 -- no chunk is counted yet
 pub sets-out : (w : ℕ) (job : List ℕ) → windowAllowed w ≡ true → Counted w job 0 0
@@ -31,12 +32,12 @@ unfolding chunkCount
 sets-out w job e = record { allowed = e; index = omega arith; few = omega arith; counts = rw (e, zero-add) }
 
 module _ {w : ℕ} {job : List ℕ} {n at : ℕ} (u : Counted w job n at) where
-  -- its first chunk is one more
-  pub counts-one : at < length job → (k : ℕ) → k ≡ fed (fresh w) (take (length job - at) (drop at job)) .consumed
-      → Turned w job n at k
-  counts-one more k e =
+  -- feeding what the job has left takes one chunk more
+  pub counts-one : at < length job → (f : Fed) → f ≡ fed (fresh w) (take (length job - at) (drop at job))
+      → Turned w job n at f
+  counts-one more f e =
       let rest = length-drop at job in
-      let chunk = next-of-rest w (u .allowed) job at more k e in
+      let chunk = next-of-rest w (u .allowed) job at more (f .consumed) (ap (λ x. x .consumed) e) in
       let first = ap length (chunk .first) in
       record {
         moves = chunk .some;

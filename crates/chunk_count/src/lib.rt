@@ -3,7 +3,7 @@
 ghost use mathlib.Core.Path.{_≡_};
 ghost use Rattle.chunk_count.specs.ChunkCount.{chunkCount};
 
-// The number of chunks of a job, found one after another; 0 where the window is refused.
+// The number of chunks of a job, one feed for each chunk; 0 where the window is refused.
 #[no_mangle]
 pub extern "C" fn hirunvel_chunk_count(window: u32, job: &[u8]) -> u64
     ensures { λ r. ⌜ r ≡ chunkCount window (now (job .entry)) ⌝ }
@@ -13,10 +13,12 @@ pub extern "C" fn hirunvel_chunk_count(window: u32, job: &[u8]) -> u64
     if !refusal::accepted(refusal) {
         return 0;
     }
+    let scanner = opened.scanner;
     let mut n: u64 = 0;
     let mut at: usize = 0;
     while at < job.len() {
-        at += chunker::next_chunk(window, &job[at..]);
+        let fed = chunker::feed(scanner, &job[at..]);
+        at += fed.consumed;
         n += 1;
     }
     n

@@ -25,8 +25,8 @@ pub struct Run {
     pub at: usize,
 }
 
-// Moves an accepted scanner on over a part. Where a window holds several blocks, the part is passed
-// by them first; then it goes byte by byte.
+// Moves an accepted scanner on over a part: a block at a time where a window holds one, then byte by
+// byte.
 pub fn scan(scanner: Scanner, part: &[u8]) -> Fed
     requires { ⌜ groundOf scanner ≡ Accepted ⌝ }
     ensures { λ r. ⌜ r ≡ scan scanner 0 (now (part .entry)) ⌝ }
@@ -40,10 +40,8 @@ pub fn scan(scanner: Scanner, part: &[u8]) -> Fed
         };
     }
     let mut run = begun(scanner, part);
-    if 64 <= run.window {
-        let given = run;
-        let passed = by_blocks(given, part);
-        run = passed;
+    if 16 <= run.window {
+        run = by_blocks(run, part);
     }
     if run.at < run.deadline {
         run = by_bytes(run, part);
@@ -54,21 +52,13 @@ pub fn scan(scanner: Scanner, part: &[u8]) -> Fed
     cut(run.window, run.at)
 }
 
-// The length of the first chunk of a job that is not empty.
+// The length of the first chunk of a job that is not empty, byte by byte.
 pub fn first_chunk(window: u32, job: &[u8]) -> usize
     requires { ⌜ windowAllowed window ≡ true ⌝ }
     requires { ⌜ 1 ≤ length (now job) ⌝ }
     ensures { λ r. ⌜ r ≡ scan (fresh window) 0 (now (job .entry)) .consumed ⌝ }
 {
-    let mut run = begun(fresh(window), job);
-    if 16 <= run.window {
-        let given = run;
-        let passed = by_blocks(given, job);
-        run = passed;
-    }
-    if run.at < run.deadline {
-        run = by_bytes(run, job);
-    }
+    let run = by_bytes(begun(fresh(window), job), job);
     if run.at < run.deadline {
         return job.len();
     }

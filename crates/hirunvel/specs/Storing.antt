@@ -1,20 +1,17 @@
--- The store's functions, and rebuilding, over numbers.
+-- The store's functions over numbers.
 use Prim.Native.Nat.{ℕ}
-use mathlib.Core.Bool.{Bool, true, false, cond}
+use mathlib.Core.Bool.{cond}
 use mathlib.Core.List.{List, [], _∷_}
 use lib.IntN.{ℤ}
 use lib.ListN.{getD}
 use Rattle.refusal.specs.Number.{numberOf, accepted}
-use Rattle.refusal.specs.declared.Refusal.{Refusal}
 use Rattle.store.specs.declared.Head.{Head}
 use Rattle.store.specs.declared.Opened.{Opened}
 use Rattle.store.specs.declared.Admitted.{Admitted}
 use Rattle.store.specs.declared.ChunkNumber.{ChunkNumber}
 use Rattle.store.specs.Directory.{offsetAt, lengthAt}
-use Rattle.store.specs.Admission.{Admission, opened, admitted}
+use Rattle.store.specs.Admission.{opened, admitted}
 use Rattle.store.specs.Looking.{lookGround}
-use Rattle.rebuild.specs.declared.Rebuilt.{Rebuilt}
-use Rattle.rebuild.specs.Rebuilding.{Rebuilding, rebuilt}
 
 -- "a head of three numbers (window, pieces, filled)"
 abbrev pub headOf : List ℕ → Head
@@ -75,15 +72,3 @@ storeLooked n pool directory number =
     cond (accepted ground)
     (record { refusal = numberOf ground; stretch = offsetAt directory number ∷ lengthAt directory number ∷ [] })
     (record { refusal = numberOf ground; stretch = 0 ∷ 0 ∷ [] })
-
--- what a rebuilding answers and writes
-pub record JobRebuilding : Type 0 where
-  pub refusal : ℕ
-  pub output : List ℕ
-  pub written : List ℕ
-
--- "A refused rebuilding leaves the output untouched"
-unfoldable pub jobRebuilt : List ℕ → List ℕ → List ℕ → List ℕ → List ℕ → JobRebuilding
-jobRebuilt n pool directory recipe output =
-    let r = rebuilt (headOf n) pool directory recipe output in
-    record { refusal = numberOf (r .answer .refusal); output = r .output; written = r .answer .written ∷ [] }

@@ -1,6 +1,6 @@
 // Rebuilding over numbers.
 ghost use mathlib.Core.Path.{_≡_};
-ghost use Rattle.hirunvel.specs.Storing.{jobRebuilt};
+ghost use Rattle.hirunvel.specs.Rebuilding.{jobRebuilt};
 use crate::result;
 use crate::storing;
 

@@ -1,14 +1,21 @@
 -- The test of a directory's layout, an entry at a time.
-use Prim.Native.Nat.{ℕ, suc, _+_, _-_, _*_, _≤_, _<_}
+use Prim.Native.Nat.{ℕ, zero, suc, _+_, _-_, _*_, _%_, _^_, _≤_, _<_}
 use native.Mathlib.Omega.{arith}
 use native.Mathlib.Numerals.{add-one}
-use native.Mathlib.Nat.{mul-comm}
 use mathlib.Core.Path.{_≡_, sym, _∙_}
 use mathlib.Core.Bool.{_&&_}
 use mathlib.Core.List.{List}
-use lib.Dec.{leb, eqb}
-use lib.ListN.{getD}
-use Rattle.store.specs.Directory.{laidOut}
+use lib.Dec.{leb, ltb, eqb}
+use borrow.Author.Tests.{le-leb, lt-leb}
+use Rattle.store.specs.Directory.{offsetAt, lengthAt, entryAllowed, laidOut}
+
+-- a length less 1, modulo 2^64, is below the longest just where the length is 1 to the longest
+pub one-test : (less length longest : ℕ) → less < 2 ^ 64 → longest < 2 ^ 64 → (less + 1) % 2 ^ 64 ≡ length
+    → ltb less longest ≡ (leb 1 length && leb length longest)
+one-test less zero longest h l e = lt-leb (suc less) longest (omega arith)
+one-test less (suc n) longest h l e =
+    let one : suc less ≡ suc n = omega arith in
+    rw (le-leb 1 (suc n) (omega arith), one)
 
 -- of the first `count` entries those from `entry` on are still to test, and the answer is theirs
 pub record Tested (w : ℕ) (directory : List ℕ) (filled count from entry : ℕ) : Type 0 where
@@ -25,10 +32,9 @@ module _ {w : ℕ} {directory : List ℕ} {filled count from entry : ℕ}
 
   -- else it is that of the next entry and of those after it
   pub one-more : entry < count → laidOut w directory 0 0 filled count
-      ≡ (eqb (getD directory (2 * entry) 0) from && leb 1 (getD directory (2 * entry + 1) 0)
-      && leb (getD directory (2 * entry + 1) 0) (256 * w + 1)
-      && laidOut w directory (entry + 1) (from + getD directory (2 * entry + 1) 0) filled (count - (entry + 1)))
+      ≡ (entryAllowed (offsetAt directory entry) (lengthAt directory entry) from (256 * w + 1)
+      && laidOut w directory (entry + 1) (from + lengthAt directory entry) filled (count - (entry + 1)))
   unfolding laidOut
   one-more h =
       let e : count - entry ≡ suc (count - (entry + 1)) = omega arith in
-      sym (t .gives) ∙ rw (e, add-one entry, mul-comm 2 entry)
+      sym (t .gives) ∙ rw (e, add-one entry)

@@ -9,7 +9,7 @@ use lib.ListN.{length, getD, length-drop}
 use lib.Seq.{length-take-le, getD-take, getD-drop, ext-getD}
 use borrow.Author.Count.{below-more}
 use Rattle.store.specs.Directory.{offsetAt, lengthAt}
-use Rattle.store.specs.Contents.{chunkAt, chunksFrom, contents, number}
+use Rattle.store.specs.Contents.{chunkAt, chunksFrom, contents, Differs, number}
 use Rattle.store.specs.Ready.{EntriesIn}
 use Rattle.store.proofs.Sameness.{equal-same, same-other}
 
@@ -73,6 +73,10 @@ module _ {pool directory chunk : List ℕ} {count i : ℕ} (s : Searched pool di
     searched-other-length e h =
         searched-more (λ p. h (sym (entry-length pool directory i (e .inside i more)) ∙ ap length p))
 
+-- bytes that differ are among any more bytes
+pub differs-more : {pool chunk : List ℕ} {from m n : ℕ} → Differs pool from chunk m → m ≤ n → Differs pool from chunk n
+differs-more d h = record { index = d .index; within = omega arith; other = d .other }
+
 -- entry i starts at `from` and has the chunk's length and its first n bytes
 pub record Compared (pool directory chunk : List ℕ) (count i from n : ℕ) : Type 0 where
   pub searched : Searched pool directory chunk count i
@@ -121,11 +125,11 @@ module _ {pool directory chunk : List ℕ} {count i from n : ℕ} (c : Compared 
   byte : (k : ℕ) → k < length chunk → getD (chunkAt pool directory i) k 0 ≡ getD pool (from + k) 0
   byte k h = rw (c .start) (entry-byte pool directory i lies k (omega arith))
 
-  -- the next byte does not agree: the entry is passed
-  pub compared-other : n < length chunk → (getD pool (from + n) 0 ≡ getD chunk n 0 → ⊥)
-      → Searched pool directory chunk count (i + 1)
-  compared-other h differs =
-      searched-more (c .searched) (c .more) (λ p. differs (sym (byte n h) ∙ ap (λ xs. getD xs n 0) p))
+  -- a byte does not agree: the entry is passed
+  pub compared-other : Differs pool from chunk (length chunk) → Searched pool directory chunk count (i + 1)
+  compared-other d =
+      searched-more (c .searched) (c .more)
+      (λ p. d .other (sym (byte (d .index) (d .within)) ∙ ap (λ xs. getD xs (d .index) 0) p))
 
   -- no byte is left: the entry holds the chunk
   pub compared-all : length chunk ≤ n → i ≡ number (contents pool directory count) chunk

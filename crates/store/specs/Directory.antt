@@ -20,12 +20,16 @@ lengthAt directory i = getD directory (i * stride + 1) 0
 abbrev pub entries : List ℕ → ℕ
 entries directory = length directory / stride
 
+-- an entry with this offset and length starts at `from`, and its length is 1 to `longest`
+abbrev pub entryAllowed : ℕ → ℕ → ℕ → ℕ → Bool
+entryAllowed offset length from longest = eqb offset from && leb 1 length && leb length longest
+
 -- "Entry 0 starts at 0, each next one where the last ended, and the last ends at filled"; "Lengths are 1 to
 -- 256 × w + 1": the n entries from entry i on, of which the first starts at `from`
 unfoldable pub laidOut : ℕ → List ℕ → ℕ → ℕ → ℕ → ℕ → Bool
 laidOut w directory i from filled zero = eqb from filled
 laidOut w directory i from filled (suc n) =
-    eqb (offsetAt directory i) from && leb 1 (lengthAt directory i) && leb (lengthAt directory i) (256 * w + 1)
+    entryAllowed (offsetAt directory i) (lengthAt directory i) from (256 * w + 1)
     && laidOut w directory (suc i) (from + lengthAt directory i) filled n
 
 -- "Pieces is at most the directory's entries, filled at most the pool's length": ground 5 does not hold

@@ -2,7 +2,7 @@
 ghost use mathlib.Core.Path.{_≡_};
 ghost use Prim.Native.Nat.{_/_, _^_, _≤_, _<_};
 ghost use lib.ListN.{length};
-ghost use Rattle.store.specs.Directory.{laidOut, fits, storeAllowed, recipeAllowed, jobAllowed};
+ghost use Rattle.store.specs.Directory.{entryAllowed, laidOut, fits, storeAllowed, recipeAllowed, jobAllowed};
 ghost use Rattle.store.specs.Admission.{admissionGround};
 ghost use Rattle.store.specs.Looking.{storeGround};
 use crate::Head;
@@ -55,6 +55,17 @@ fn fits(head: Head, pool: &[u8], directory: &[u32]) -> bool
     laid_out(head.window, directory, count, end)
 }
 
+// An entry starts at `from`, and its length is 1 to `longest`. One less than length 0 wraps around to
+// the largest number, so that one comparison tests both bounds.
+fn entry_allowed(offset: u64, length: u64, from: u64, longest: u64) -> bool
+    ensures { λ r. ⌜ r ≡ entryAllowed offset length from longest ⌝ }
+{
+    if offset != from {
+        return false;
+    }
+    std::num::wrapping_sub_u64(length, 1) < longest
+}
+
 // Each of the first `count` entries starts where the last ended, with an allowed length, and the
 // last ends at `end`.
 fn laid_out(window: u32, directory: &[u32], count: usize, end: u64) -> bool
@@ -66,16 +77,10 @@ fn laid_out(window: u32, directory: &[u32], count: usize, end: u64) -> bool
     let mut from: u64 = 0;
     let mut entry = 0;
     while entry < count {
-        let offset = directory[2 * entry] as u64;
-        let length = directory[2 * entry + 1] as u64;
+        let offset = directory[entry * 2] as u64;
+        let length = directory[entry * 2 + 1] as u64;
         entry += 1;
-        if offset != from {
-            return false;
-        }
-        if length < 1 {
-            return false;
-        }
-        if longest < length {
+        if !entry_allowed(offset, length, from, longest) {
             return false;
         }
         from += length;

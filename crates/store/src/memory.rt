@@ -1,9 +1,10 @@
 // Reading and writing pool and directory.
 ghost use mathlib.Core.Path.{_≡_};
+ghost use mathlib.Core.Bool.{true};
 ghost use Prim.Native.Nat.{ℕ, _+_, _*_, _≤_, _<_};
 ghost use lib.ListN.{length, set};
 ghost use Rattle.store.specs.Directory.{offsetAt, lengthAt};
-ghost use Rattle.store.specs.Contents.{contents, number};
+ghost use Rattle.store.specs.Contents.{contents, number, Differs};
 ghost use Rattle.store.specs.Filling.{written};
 ghost use Rattle.store.specs.Ready.{EntriesIn};
 use crate::ChunkNumber;
@@ -25,8 +26,28 @@ pub fn length_of(directory: &[u32], entry: usize) -> usize
     directory[entry * 2 + 1] as usize
 }
 
+// Whether the 16 bytes from `from` on are not the chunk's first 16. All are compared, so that the
+// compiler compares them at once.
+fn differs_16(pool: &[u8], from: usize, chunk: &[u8]) -> bool
+    requires { ⌜ from + 16 ≤ length (now pool) ⌝ }
+    requires { ⌜ 16 ≤ length (now chunk) ⌝ }
+    ensures { λ r. ⌜ (r ≡ true → Differs (now (pool .entry)) from (now (chunk .entry)) 16) ⌝ }
+{
+    let mut differs = false;
+    let mut index = 0;
+    while index < 16 {
+        let stored = pool[from + index];
+        let wanted = chunk[index];
+        index += 1;
+        if stored != wanted {
+            differs = true;
+        }
+    }
+    differs
+}
+
 // The lowest number of an equal chunk, or the next unused number. A candidate has the same length,
-// and is dropped at its first unequal byte.
+// and is dropped at its first unequal byte; the first 16 bytes are tested together.
 pub fn search(pool: &[u8], directory: &[u32], chunks: ChunkNumber, chunk: &[u8]) -> ChunkNumber
     requires { ⌜ EntriesIn (now pool) (now directory) (chunks .0) ⌝ }
     ensures { λ r. ⌜ r .0 ≡ number (contents (now (pool .entry)) (now (directory .entry)) (chunks .0)) (now (chunk .entry)) ⌝ }
@@ -40,6 +61,11 @@ pub fn search(pool: &[u8], directory: &[u32], chunks: ChunkNumber, chunk: &[u8])
             continue 'entries;
         }
         let from = offset_of(directory, entry);
+        if 16 <= chunk.len() {
+            if differs_16(pool, from, chunk) {
+                continue 'entries;
+            }
+        }
         let mut i = 0;
         while i < chunk.len() {
             if pool[from + i] != chunk[i] {

@@ -1,10 +1,12 @@
 -- `chunk_count::hirunvel_chunk_count` meets its contract. Each turn takes one chunk.
 use Prim.Native.Nat.{_-_}
 use native.Mathlib.Omega.{arith}
-use mathlib.Core.Path.{sym, _∙_}
+use mathlib.Core.Path.{_≡_, sym, ap, _∙_}
 use borrow.Author.Needs.{needs}
 use borrow.Author.Tests.{not-true, not-false}
 use lib.ListN.{length}
+use Rattle.chunker.specs.Scanner.{fresh}
+use Rattle.chunker.proofs.Soundness.{opened-fresh}
 use Rattle.chunker.proofs.Opening.{opened-accepted}
 use Rattle.chunk_count.specs.ChunkCount.{chunkCount}
 use Rattle.chunk_count.proofs.Counting.{Counted, Turned, sets-out, counts-one, stops}
@@ -12,10 +14,10 @@ use Rattle.chunk_count.proofs.hirunvel_chunk_count.Statement.{statement
 use Rattle.chunk_count.proofs.hirunvel_chunk_count.Tie as tie
 
 abbrev Inv-loop : tie.InvT-loop
-Inv-loop window job n₀ at₀ n at = Counted window job n at
+Inv-loop window job scanner n₀ at₀ n at = (scanner ≡ fresh window) × Counted window job n at
 
 abbrev μ-loop : tie.MeasureT-loop
-μ-loop window job n₀ at₀ n at = length job - at
+μ-loop window job scanner n₀ at₀ n at = length job - at
 
 open-requires : tie.Need-open-requires Inv-loop μ-loop
 open-requires c κs = search needs
@@ -31,25 +33,32 @@ returns c =
 
 loop-holds : tie.Need-loop-holds Inv-loop μ-loop
 loop-holds c =
-    let opening = opened-accepted _ _ (c .before .before .«open» .ensures) in
-    sets-out _ _ (sym opening ∙ (sym (c .before .accepted .ensures) ∙ not-false _ (c .if1 .left)))
+    let opening = c .before .before .before .«open» .ensures in
+    let test = sym (c .before .before .accepted .ensures) ∙ not-false _ (c .before .if1 .left) in
+    let allowed = sym (opened-accepted _ _ opening) ∙ test in
+    (ap (λ o. o .scanner) opening ∙ opened-fresh _ allowed, sets-out _ _ allowed)
 
-sub-next-chunk : tie.Need-sub-next-chunk Inv-loop μ-loop
-sub-next-chunk c = omega arith
+sub-feed : tie.Need-sub-feed Inv-loop μ-loop
+sub-feed c = omega arith
 
-part-next-chunk-start : tie.Need-part-next-chunk-start Inv-loop μ-loop
-part-next-chunk-start c = omega arith
+part-feed-start : tie.Need-part-feed-start Inv-loop μ-loop
+part-feed-start c = omega arith
 
-part-next-chunk-end : tie.Need-part-next-chunk-end Inv-loop μ-loop
-part-next-chunk-end c = omega arith
+part-feed-end : tie.Need-part-feed-end Inv-loop μ-loop
+part-feed-end c = omega arith
 
-next-chunk-requires : tie.Need-next-chunk-requires Inv-loop μ-loop
-next-chunk-requires c κs = search needs
+feed-requires : tie.Need-feed-requires Inv-loop μ-loop
+feed-requires c κs = search needs
 
--- a turn takes the first chunk of what the job has left
-turned : (c : tie.After-next-chunk Inv-loop μ-loop) → let a = c .before .before .before .before .before .before .before .before .args in let loop = c .before .before .before .loop in
-    Turned (a .window) (a .job .now) (loop .n) (loop .at) (c .next-chunk .result)
-turned c = counts-one (c .before .before .before .loop .inv) (c .before .before .loop-test .taken) _ (c .next-chunk .ensures)
+-- a turn feeds what the job has left
+turned : (c : tie.After-struct-known Inv-loop μ-loop) →
+    let start = c .before .before .before .before .before .before .before .before .before .before in
+    let loop = c .before .before .before .before .loop in
+    Turned (start .args .window) (start .args .job .now) (loop .n) (loop .at) (c .before .feed .result)
+turned c =
+    let loop = c .before .before .before .before .loop in
+    counts-one (loop .inv .1) (c .before .before .before .loop-test .taken) (c .before .feed .result)
+    (rw (loop .inv .0) at (c .before .feed .ensures))
 
 add-at : tie.Need-add-at Inv-loop μ-loop
 add-at c = omega (arith, turned c)
@@ -61,10 +70,10 @@ loop-less : tie.Need-loop-less Inv-loop μ-loop
 loop-less c = omega (arith, turned c)
 
 loop-again : tie.Need-loop-again Inv-loop μ-loop
-loop-again c = turned c .on
+loop-again c = (c .before .before .before .before .loop .inv .0, turned c .on)
 
 returns-2 : tie.Need-returns-2 Inv-loop μ-loop
-returns-2 c = stops (c .before .loop .inv) (c .loop-test .left)
+returns-2 c = stops (c .before .loop .inv .1) (c .loop-test .left)
 
 pub hirunvel-chunk-count-spec : {M : Type 1} → statement M
 hirunvel-chunk-count-spec =
@@ -76,10 +85,10 @@ hirunvel-chunk-count-spec =
     accepted-requires
     returns
     loop-holds
-    sub-next-chunk
-    part-next-chunk-start
-    part-next-chunk-end
-    next-chunk-requires
+    sub-feed
+    part-feed-start
+    part-feed-end
+    feed-requires
     add-at
     add-n
     loop-less

@@ -1,12 +1,11 @@
 -- `chunker::scan::first_chunk` meets its contract.
 use native.Mathlib.Omega.{arith}
 use mathlib.Core.Path.{sym, ap, _∙_}
-use mathlib.Core.Logic.{⊎-elim}
 use borrow.Author.Needs.{needs}
 use Rattle.chunker.specs.Scanner.{fresh}
-use Rattle.chunker.specs.Run.{Begun, Advanced, Reached}
+use Rattle.chunker.specs.Run.{Begun}
 use Rattle.chunker.proofs.Soundness.{fresh-ground}
-use Rattle.chunker.proofs.ScanEnds.{advanced-none, reached-already, reached-then, ends-chunk, leaves-rest, consumes-part}
+use Rattle.chunker.proofs.ScanEnds.{ends-chunk, leaves-rest, consumes-part}
 use Rattle.chunker.proofs.scan.first_chunk.Statement.{statement}
 use Rattle.chunker.proofs.scan.first_chunk.Tie as tie
 
@@ -17,43 +16,24 @@ begun-requires : tie.Need-begun-requires
 begun-requires c κs =
     (rw (c .fresh .ensures) (fresh-ground _ (c .before .before .pre .0)), c .before .before .pre .1)
 
-by-blocks-requires : tie.Need-by-blocks-requires
-by-blocks-requires c κs = search needs
-
 -- the scan begins with a fresh scanner
 begins : (c : tie.After-begun) → let a = c .before .before .before .args in Begun (fresh (a .window)) (c .begun .result) (a .job .now)
 begins c = rw (c .before .fresh .ensures) at (c .begun .ensures)
 
--- the run after the blocks, if any
-advanced : (c : tie.Joined1) →
-    Advanced (c .before .before .begun .result) (c .if1 .run) (c .before .before .before .before .before .args .job .now)
-advanced c =
-    ⊎-elim (λ blocks. rw (blocks .2) (blocks .1 .ensures))
-    (λ none. rw (none .1) (advanced-none _ _ (c .before .before .begun .ensures .going))) (c .if1 .came)
-
--- the run after the bytes, if any
-reached : (c : tie.Joined2) →
-    Reached (c .before .before .before .before .begun .result) (c .if2 .run) (c .before .before .before .before .before .before .before .args .job .now)
-reached c =
-    let before = advanced (c .before .before) in
-    ⊎-elim (λ bytes. rw (bytes .2) (reached-then before (bytes .0 .taken) (bytes .1 .ensures)))
-    (λ none. rw (none .1) (reached-already before (none .0 .left))) (c .if2 .came)
-
 by-bytes-requires : tie.Need-by-bytes-requires
-by-bytes-requires c κs = advanced (c .before .before) .uncut (c .if2 .taken) .going
+by-bytes-requires c κs = c .begun .ensures .going
 
 returns : tie.Need-returns
 returns c =
-    let r = reached (c .before .before) in
-    let going = r .advanced .uncut (c .if3 .taken) .going in
-    let whole = consumes-part (c .before .before .if2 .run) (c .before .before .before .before .before .before .before .before .before .args .job .now) (λ q. omega (arith, c .before .before .before .before .before .before .before .before .shared-slice-known .given q)) going (r .short (c .if3 .taken)) in
-    sym whole ∙ ap (λ f. f .consumed) (leaves-rest (begins (c .before .before .before .before .before .before)) r (c .if3 .taken))
+    let r = c .before .before .by-bytes .ensures in
+    let going = r .advanced .uncut (c .if1 .taken) .going in
+    let whole = consumes-part (c .before .before .by-bytes .result) (c .before .before .before .before .before .before .args .job .now) (λ q. omega (arith, c .before .before .before .before .before .shared-slice-known .given q)) going (r .short (c .if1 .taken)) in
+    sym whole ∙ ap (λ f. f .consumed) (leaves-rest (begins (c .before .before .before)) r (c .if1 .taken))
 
 returns-2 : tie.Need-returns-2
-returns-2 c =
-    ap (λ f. f .consumed) (ends-chunk (begins (c .before .before .before .before .before .before)) (reached (c .before .before)) (c .if3 .left))
+returns-2 c = ap (λ f. f .consumed) (ends-chunk (begins (c .before .before .before)) (c .before .before .by-bytes .ensures) (c .if1 .left))
 
 pub first-chunk-spec : {M : Type 1} → statement M
 first-chunk-spec =
     tie.close
-    (tie.spec fresh-requires begun-requires by-blocks-requires by-bytes-requires returns returns-2)
+    (tie.spec fresh-requires begun-requires by-bytes-requires returns returns-2)

@@ -3,7 +3,7 @@ use mathlib.Core.Path.{_≡_, ap, _∙_}
 use mathlib.Core.List.{[], _∷_}
 use borrow.Author.Needs.{needs}
 use Rattle.refusal.specs.Number.{numberOf}
-use Rattle.hirunvel.specs.Storing.{jobRebuilt}
+use Rattle.hirunvel.specs.Rebuilding.{jobRebuilt}
 use Rattle.hirunvel.proofs.rebuilding.hirunvel_rebuild.Statement.{statement}
 use Rattle.hirunvel.proofs.rebuilding.hirunvel_rebuild.Tie as tie
 

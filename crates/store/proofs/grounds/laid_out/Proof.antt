@@ -2,7 +2,8 @@
 use Prim.Native.Nat.{_+_, _-_, _*_}
 use native.Mathlib.Omega.{arith}
 use native.Mathlib.Nat.{sub-zero}
-use borrow.Author.Tests.{le-leb, lt-leb, eq-eqb, ne-eqb}
+use mathlib.Core.Path.{sym, _∙_}
+use borrow.Author.Tests.{not-true, not-false}
 use Rattle.store.proofs.LaidOut.{Tested, none-left, one-more}
 use Rattle.store.proofs.grounds.laid_out.Statement.{statement}
 use Rattle.store.proofs.grounds.laid_out.Tie as tie
@@ -32,7 +33,7 @@ shared-slice-read-offset : tie.Need-shared-slice-read-offset Inv-loop μ-loop
 shared-slice-read-offset c = omega arith
 
 cast-offset : tie.Need-cast-offset Inv-loop μ-loop
-cast-offset c = omega (arith, c .shared-slice-known .given (2 * c .before .before .loop .entry))
+cast-offset c = omega (arith, c .shared-slice-known2 .given (c .before .before .loop .entry * 2))
 
 mul-length : tie.Need-mul-length Inv-loop μ-loop
 mul-length c = omega arith
@@ -47,60 +48,45 @@ shared-slice-read-length : tie.Need-shared-slice-read-length Inv-loop μ-loop
 shared-slice-read-length c = omega arith
 
 cast-length : tie.Need-cast-length Inv-loop μ-loop
-cast-length c = omega (arith, c .shared-slice-known2 .given (2 * c .before .before .before .loop .entry + 1))
+cast-length c = omega (arith, c .shared-slice-known3 .given (c .before .before .before .loop .entry * 2 + 1))
 
 add-entry : tie.Need-add-entry Inv-loop μ-loop
 add-entry c = omega arith
 
+entry-allowed-requires : tie.Need-entry-allowed-requires Inv-loop μ-loop
+entry-allowed-requires c κs = tt
+
 returns : tie.Need-returns Inv-loop μ-loop
 returns c =
-    let inv = c .before .before .before .before .loop .inv in
-    rw (one-more inv (c .before .before .before .loop-test .taken), ne-eqb _ _ (c .if1 .taken))
-
-returns-2 : tie.Need-returns-2 Inv-loop μ-loop
-returns-2 c =
     let inv = c .before .before .before .before .before .loop .inv in
     rw (
       one-more inv (c .before .before .before .before .loop-test .taken),
-      eq-eqb _ _ (c .before .if1 .left),
-      lt-leb 1 _ (c .if2 .taken),
-    )
-
-returns-3 : tie.Need-returns-3 Inv-loop μ-loop
-returns-3 c =
-    let inv = c .before .before .before .before .before .before .loop .inv in
-    rw (
-      one-more inv (c .before .before .before .before .before .loop-test .taken),
-      eq-eqb _ _ (c .before .before .if1 .left),
-      le-leb 1 _ (c .before .if2 .left),
-      lt-leb _ _ (c .if3 .taken),
+      sym (c .before .entry-allowed .ensures) ∙ not-true _ (c .if1 .taken),
     )
 
 add-from : tie.Need-add-from Inv-loop μ-loop
 add-from c =
-    let entry = c .before .before .before .before .before .before .loop .entry in
-    omega (arith, c .before .before .before .shared-slice-known2 .given (2 * entry + 1))
+    let entry = c .before .before .before .before .before .loop .entry in
+    omega (arith, c .before .before .shared-slice-known3 .given (entry * 2 + 1))
 
 loop-less : tie.Need-loop-less Inv-loop μ-loop
 loop-less c = omega arith
 
 loop-again : tie.Need-loop-again Inv-loop μ-loop
 loop-again c =
-    let entry = c .before .before .before .before .before .before .loop .entry in
-    let inv = c .before .before .before .before .before .before .loop .inv in
+    let entry = c .before .before .before .before .before .loop .entry in
+    let inv = c .before .before .before .before .before .loop .inv in
     record {
       order = omega arith;
-      small = omega (arith, c .before .before .before .shared-slice-known2 .given (2 * entry + 1));
+      small = omega (arith, c .before .before .shared-slice-known3 .given (entry * 2 + 1));
       gives = rw (
-        one-more inv (c .before .before .before .before .before .loop-test .taken),
-        eq-eqb _ _ (c .before .before .if1 .left),
-        le-leb 1 _ (c .before .if2 .left),
-        le-leb _ _ (c .if3 .left),
+        one-more inv (c .before .before .before .before .loop-test .taken),
+        sym (c .before .entry-allowed .ensures) ∙ not-false _ (c .if1 .left),
       );
     }
 
-returns-4 : tie.Need-returns-4 Inv-loop μ-loop
-returns-4 c = rw (none-left (c .before .loop .inv) (c .loop-test .left))
+returns-2 : tie.Need-returns-2 Inv-loop μ-loop
+returns-2 c = rw (none-left (c .before .loop .inv) (c .loop-test .left))
 
 pub laid-out-spec : {M : Type 1} → statement M
 laid-out-spec =
@@ -121,10 +107,9 @@ laid-out-spec =
     shared-slice-read-length
     cast-length
     add-entry
+    entry-allowed-requires
     returns
-    returns-2
-    returns-3
     add-from
     loop-less
     loop-again
-    returns-4)
+    returns-2)

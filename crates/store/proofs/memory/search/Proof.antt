@@ -3,7 +3,7 @@ use Prim.Native.Nat.{_-_}
 use native.Mathlib.Omega.{arith}
 use mathlib.Core.Path.{sym, _∙_}
 use lib.ListN.{length}
-use Rattle.store.proofs.Searching.{Searched, searched-none, searched-all, searched-other-length}
+use Rattle.store.proofs.Searching.{Searched, searched-none, searched-all, searched-other-length, differs-more}
 use Rattle.store.proofs.Searching.{Compared, compared-none, compared-more, compared-other, compared-all}
 use Rattle.store.proofs.memory.search.Statement.{statement}
 use Rattle.store.proofs.memory.search.Tie as tie
@@ -44,29 +44,46 @@ entries-again c =
 offset-of-requires : tie.Need-offset-of-requires Inv-loop μ-loop Inv-entries μ-entries
 offset-of-requires c κs = omega arith
 
-loop-holds : tie.Need-loop-holds Inv-loop μ-loop Inv-entries μ-entries
-loop-holds c =
-    compared-none (c .before .before .before .before .entries .inv)
-    (c .before .before .before .before .before .before .before .before .pre)
-    (c .before .before .before .entries-test .taken) (c .offset-of .ensures)
-    (sym (c .before .before .length-of .ensures) ∙ c .before .if1 .left)
-
-add-if2 : tie.Need-add-if2 Inv-loop μ-loop Inv-entries μ-entries
-add-if2 c = omega arith
-
-shared-slice-read-if2 : tie.Need-shared-slice-read-if2 Inv-loop μ-loop Inv-entries μ-entries
-shared-slice-read-if2 c = omega arith
-
-shared-slice-read-if2-2 : tie.Need-shared-slice-read-if2-2 Inv-loop μ-loop Inv-entries μ-entries
-shared-slice-read-if2-2 c = omega arith
+differs-16-requires : tie.Need-differs-16-requires Inv-loop μ-loop Inv-entries μ-entries
+differs-16-requires c κs =
+    let entries = c .before .before .before .before .before .before .before .before .before .pre in
+    let inside = entries .inside _ (c .before .before .before .before .entries-test .taken) in
+    (omega arith, omega arith)
 
 entries-less-2 : tie.Need-entries-less-2 Inv-loop μ-loop Inv-entries μ-entries
 entries-less-2 c = omega arith
 
 entries-again-2 : tie.Need-entries-again-2 Inv-loop μ-loop Inv-entries μ-entries
 entries-again-2 c =
-    compared-other (c .before .before .before .before .loop .inv) (c .before .before .before .loop-test .taken)
-    (c .if2 .taken)
+    let begun = compared-none (c .before .before .before .before .before .before .before .entries .inv)
+    (c .before .before .before .before .before .before .before .before .before .before .before .pre)
+    (c .before .before .before .before .before .before .entries-test .taken) (c .before .before .before .offset-of .ensures)
+    (sym (c .before .before .before .before .before .length-of .ensures) ∙ c .before .before .before .before .if1 .left) in
+    compared-other begun (differs-more (c .before .differs-16 .ensures (c .if3 .taken)) (c .before .before .if2 .taken))
+
+loop-holds : tie.Need-loop-holds Inv-loop μ-loop Inv-entries μ-entries
+loop-holds c =
+    compared-none (c .before .before .before .before .before .entries .inv)
+    (c .before .before .before .before .before .before .before .before .before .pre)
+    (c .before .before .before .before .entries-test .taken) (c .before .offset-of .ensures)
+    (sym (c .before .before .before .length-of .ensures) ∙ c .before .before .if1 .left)
+
+add-if4 : tie.Need-add-if4 Inv-loop μ-loop Inv-entries μ-entries
+add-if4 c = omega arith
+
+shared-slice-read-if4 : tie.Need-shared-slice-read-if4 Inv-loop μ-loop Inv-entries μ-entries
+shared-slice-read-if4 c = omega arith
+
+shared-slice-read-if4-2 : tie.Need-shared-slice-read-if4-2 Inv-loop μ-loop Inv-entries μ-entries
+shared-slice-read-if4-2 c = omega arith
+
+entries-less-3 : tie.Need-entries-less-3 Inv-loop μ-loop Inv-entries μ-entries
+entries-less-3 c = omega arith
+
+entries-again-3 : tie.Need-entries-again-3 Inv-loop μ-loop Inv-entries μ-entries
+entries-again-3 c =
+    compared-other (c .before .before .before .before .loop .inv)
+    (record { index = _; within = c .before .before .before .loop-test .taken; other = c .if4 .taken })
 
 add-i : tie.Need-add-i Inv-loop μ-loop Inv-entries μ-entries
 add-i c = omega arith
@@ -77,10 +94,10 @@ loop-less c = omega arith
 loop-again : tie.Need-loop-again Inv-loop μ-loop Inv-entries μ-entries
 loop-again c =
     compared-more (c .before .before .before .before .loop .inv) (c .before .before .before .loop-test .taken)
-    (c .if2 .left)
+    (c .if4 .left)
 
-sub-t19 : tie.Need-sub-t19 Inv-loop μ-loop Inv-entries μ-entries
-sub-t19 c = omega arith
+sub-t20 : tie.Need-sub-t20 Inv-loop μ-loop Inv-entries μ-entries
+sub-t20 c = omega arith
 
 returns : tie.Need-returns Inv-loop μ-loop Inv-entries μ-entries
 returns c = omega (arith, compared-all (c .before .loop .inv) (c .loop-test .left))
@@ -103,15 +120,18 @@ search-spec =
     entries-less
     entries-again
     offset-of-requires
-    loop-holds
-    add-if2
-    shared-slice-read-if2
-    shared-slice-read-if2-2
+    differs-16-requires
     entries-less-2
     entries-again-2
+    loop-holds
+    add-if4
+    shared-slice-read-if4
+    shared-slice-read-if4-2
+    entries-less-3
+    entries-again-3
     add-i
     loop-less
     loop-again
-    sub-t19
+    sub-t20
     returns
     returns-2)
