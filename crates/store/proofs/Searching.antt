@@ -1,14 +1,14 @@
 -- A search under way: no entry that was passed holds the chunk, and the entry at hand agrees with it so far.
-use Prim.Native.Nat.{ℕ, suc, _+_, _-_, _≤_, _<_}
+use Prim.Native.Nat.{ℕ, zero, suc, _+_, _-_, _*_, _≤_, _<_}
 use native.Mathlib.Omega.{arith}
-use native.Mathlib.Nat.{zero-add, sub-zero}
+use native.Mathlib.Nat.{zero-add, add-zero, sub-zero}
 use native.Mathlib.Numerals.{add-one}
 use mathlib.Core.Path.{_≡_, ap, sym, _∙_}
 use mathlib.Core.List.{List}
 use lib.ListN.{length, getD, length-drop}
 use lib.Seq.{length-take-le, getD-take, getD-drop, ext-getD}
 use borrow.Author.Count.{below-more}
-use Rattle.store.specs.Directory.{offsetAt, lengthAt}
+use Rattle.store.specs.Directory.{offsetAt, lengthAt, NextOfLength}
 use Rattle.store.specs.Contents.{chunkAt, chunksFrom, contents, Differs, number}
 use Rattle.store.specs.Ready.{EntriesIn}
 use Rattle.store.proofs.Sameness.{equal-same, same-other}
@@ -72,6 +72,42 @@ module _ {pool directory chunk : List ℕ} {count i : ℕ} (s : Searched pool di
         → Searched pool directory chunk count (i + 1)
     searched-other-length e h =
         searched-more (λ p. h (sym (entry-length pool directory i (e .inside i more)) ∙ ap length p))
+
+-- on the way to the next entry of a length: those from `from` on, before `entry`, have others
+pub record Skipped (directory : List ℕ) (from count size entry : ℕ) : Type 0 where
+  pub after : from ≤ entry
+  pub within : entry ≤ count
+  pub room : count * 2 ≤ length directory
+  pub others : (q : ℕ) → q < entry → from ≤ q → lengthAt directory q ≡ size → ⊥
+
+-- the entry has another too
+pub skips-one : {directory : List ℕ} {from count size entry : ℕ} → Skipped directory from count size entry → entry < count
+    → (lengthAt directory entry ≡ size → ⊥) → Skipped directory from count size (entry + 1)
+skips-one {entry} s more other =
+    record {
+      after = omega (arith, s .after);
+      within = omega arith;
+      room = s .room;
+      others = below-more _ entry (s .others) (λ _. other);
+    }
+
+-- entries of another length are passed
+pub searched-on : {pool directory chunk : List ℕ} {count i : ℕ} → EntriesIn pool directory count → (n : ℕ) → i + n ≤ count
+    → ((q : ℕ) → q < i + n → i ≤ q → lengthAt directory q ≡ length chunk → ⊥)
+    → Searched pool directory chunk count i → Searched pool directory chunk count (i + n)
+searched-on e zero h others s = rw add-zero s
+searched-on {i} e (suc n) h others s =
+    let before = searched-on e n (omega arith) (λ q a b. others q (omega arith) b) s in
+    let same : i + n + 1 ≡ i + suc n = omega arith in
+    rw same at (searched-other-length before (omega arith) e (others (i + n) (omega arith) (omega arith)))
+
+-- up to the next that has the chunk's
+pub searched-to : {pool directory chunk : List ℕ} {count i j : ℕ} → EntriesIn pool directory count
+    → NextOfLength directory i count (length chunk) j → Searched pool directory chunk count i
+    → Searched pool directory chunk count j
+searched-to {i} {j} e next s =
+    let sum : i + (j - i) ≡ j = omega (arith, next .after) in
+    rw sum at (searched-on e (j - i) (omega (arith, next .within, next .after)) (λ q a b. next .others q (omega (arith, next .after)) b) s)
 
 -- bytes that differ are among any more bytes
 pub differs-more : {pool chunk : List ℕ} {from m n : ℕ} → Differs pool from chunk m → m ≤ n → Differs pool from chunk n

@@ -3,7 +3,7 @@ ghost use mathlib.Core.Path.{_≡_};
 ghost use mathlib.Core.Bool.{true};
 ghost use Prim.Native.Nat.{ℕ, _+_, _*_, _≤_, _<_};
 ghost use lib.ListN.{length, set};
-ghost use Rattle.store.specs.Directory.{offsetAt, lengthAt};
+ghost use Rattle.store.specs.Directory.{offsetAt, lengthAt, NextOfLength};
 ghost use Rattle.store.specs.Contents.{contents, number, Differs};
 ghost use Rattle.store.specs.Filling.{written};
 ghost use Rattle.store.specs.Ready.{EntriesIn};
@@ -24,6 +24,23 @@ pub fn length_of(directory: &[u32], entry: usize) -> usize
     ensures { λ r. ⌜ r ≡ lengthAt (now (directory .entry)) entry ⌝ }
 {
     directory[entry * 2 + 1] as usize
+}
+
+// The first entry from `from` on, before entry `count`, that has `size` bytes; `count` where there is
+// none.
+fn next_of_length(directory: &[u32], from: usize, count: usize, size: usize) -> usize
+    requires { ⌜ from ≤ count ⌝ }
+    requires { ⌜ count * 2 ≤ length (now directory) ⌝ }
+    ensures { λ r. ⌜ NextOfLength (now (directory .entry)) from count size r ⌝ }
+{
+    let mut entry = from;
+    while entry < count {
+        if length_of(directory, entry) == size {
+            return entry;
+        }
+        entry += 1;
+    }
+    count
 }
 
 // Whether the 16 bytes from `from` on are not the chunk's first 16. All are compared, so that the
@@ -52,14 +69,14 @@ pub fn search(pool: &[u8], directory: &[u32], chunks: ChunkNumber, chunk: &[u8])
     requires { ⌜ EntriesIn (now pool) (now directory) (chunks .0) ⌝ }
     ensures { λ r. ⌜ r .0 ≡ number (contents (now (pool .entry)) (now (directory .entry)) (chunks .0)) (now (chunk .entry)) ⌝ }
 {
-    let count = chunks.0;
-    let mut candidate = 0;
-    'entries: while candidate < count {
-        let entry = candidate as usize;
-        candidate += 1;
-        if length_of(directory, entry) != chunk.len() {
-            continue 'entries;
+    let count = chunks.0 as usize;
+    let mut next = 0;
+    'entries: while next < count {
+        let entry = next_of_length(directory, next, count, chunk.len());
+        if entry == count {
+            return chunks;
         }
+        next = entry + 1;
         let from = offset_of(directory, entry);
         if 16 <= chunk.len() {
             if differs_16(pool, from, chunk) {
@@ -73,7 +90,7 @@ pub fn search(pool: &[u8], directory: &[u32], chunks: ChunkNumber, chunk: &[u8])
             }
             i += 1;
         }
-        return ChunkNumber(candidate - 1);
+        return ChunkNumber(entry as u32);
     }
     chunks
 }

@@ -1,72 +1,73 @@
--- `store::memory::search` meets its contract: each turn over the entries passes one that holds another chunk.
-use Prim.Native.Nat.{_-_}
+-- `store::memory::search` meets its contract: each turn over the entries passes those that hold another chunk.
+use Prim.Native.Nat.{_-_, _<_}
 use native.Mathlib.Omega.{arith}
-use mathlib.Core.Path.{sym, _∙_}
 use lib.ListN.{length}
-use Rattle.store.proofs.Searching.{Searched, searched-none, searched-all, searched-other-length, differs-more}
+use Rattle.store.proofs.Searching.{Searched, searched-none, searched-all, searched-to, differs-more}
 use Rattle.store.proofs.Searching.{Compared, compared-none, compared-more, compared-other, compared-all}
 use Rattle.store.proofs.memory.search.Statement.{statement}
 use Rattle.store.proofs.memory.search.Tie as tie
 
 abbrev Inv-loop : tie.InvT-loop
-Inv-loop pool directory chunks chunk count candidate entry from i₀ i = Compared pool directory chunk count entry from i
+Inv-loop pool directory chunks chunk count next entry from i₀ i = Compared pool directory chunk count entry from i
 
 abbrev μ-loop : tie.MeasureT-loop
-μ-loop pool directory chunks chunk count candidate entry from i₀ i = length chunk - i
+μ-loop pool directory chunks chunk count next entry from i₀ i = length chunk - i
 
 abbrev Inv-entries : tie.InvT-entries
-Inv-entries pool directory chunks chunk count candidate₀ candidate = Searched pool directory chunk count candidate
+Inv-entries pool directory chunks chunk count next₀ next = Searched pool directory chunk count next
 
 abbrev μ-entries : tie.MeasureT-entries
-μ-entries pool directory chunks chunk count candidate₀ candidate = count - candidate
+μ-entries pool directory chunks chunk count next₀ next = count - next
+
+cast-count : tie.Need-cast-count Inv-loop μ-loop Inv-entries μ-entries
+cast-count c = omega arith
 
 entries-holds : tie.Need-entries-holds Inv-loop μ-loop Inv-entries μ-entries
 entries-holds c = searched-none _ _ _ _
 
-cast-entry : tie.Need-cast-entry Inv-loop μ-loop Inv-entries μ-entries
-cast-entry c = omega arith
+next-of-length-requires : tie.Need-next-of-length-requires Inv-loop μ-loop Inv-entries μ-entries
+next-of-length-requires c κs = omega (arith, c .before .before .before .before .before .before .pre .entered)
 
-add-candidate : tie.Need-add-candidate Inv-loop μ-loop Inv-entries μ-entries
-add-candidate c = omega arith
+-- the entries before the one found hold other chunks
+found : (c : tie.After-next-of-length Inv-loop μ-loop Inv-entries μ-entries) → let a = c .before .before .before .before .before .before .before .args in
+    Searched (a .pool .now) (a .directory .now) (a .chunk .now) (a .chunks .0) (c .next-of-length .result)
+found c = searched-to (c .before .before .before .before .before .before .before .pre) (c .next-of-length .ensures) (c .before .before .entries .inv)
 
-length-of-requires : tie.Need-length-of-requires Inv-loop μ-loop Inv-entries μ-entries
-length-of-requires c κs = omega arith
+returns : tie.Need-returns Inv-loop μ-loop Inv-entries μ-entries
+returns c = searched-all (found (c .before)) (omega (arith, c .if1 .taken))
 
-entries-less : tie.Need-entries-less Inv-loop μ-loop Inv-entries μ-entries
-entries-less c = omega arith
+-- there is one
+more : (c : tie.Else1 Inv-loop μ-loop Inv-entries μ-entries) → c .before .next-of-length .result < c .before .before .before .before .before .before .before .before .args .chunks .0
+more c = let other = c .if1 .left in omega (arith, c .before .next-of-length .ensures .within)
 
-entries-again : tie.Need-entries-again Inv-loop μ-loop Inv-entries μ-entries
-entries-again c =
-    searched-other-length (c .before .before .before .entries .inv) (c .before .before .entries-test .taken)
-    (c .before .before .before .before .before .before .before .pre)
-    (λ e. c .if1 .taken (c .before .length-of .ensures ∙ e))
+add-next : tie.Need-add-next Inv-loop μ-loop Inv-entries μ-entries
+add-next c = omega (arith, more c)
 
 offset-of-requires : tie.Need-offset-of-requires Inv-loop μ-loop Inv-entries μ-entries
-offset-of-requires c κs = omega arith
+offset-of-requires c κs = omega (arith, more c, c .before .before .before .before .before .before .before .before .pre .entered)
+
+-- no byte of it is compared yet
+begun : (c : tie.After-offset-of Inv-loop μ-loop Inv-entries μ-entries) → let a = c .before .before .before .before .before .before .before .before .before .args in
+    Compared (a .pool .now) (a .directory .now) (a .chunk .now) (a .chunks .0) (c .before .before .next-of-length .result)
+    (c .offset-of .result) 0
+begun c =
+    compared-none (found (c .before .before)) (c .before .before .before .before .before .before .before .before .before .pre) (more (c .before)) (c .offset-of .ensures)
+    (c .before .before .next-of-length .ensures .has (more (c .before)))
 
 differs-16-requires : tie.Need-differs-16-requires Inv-loop μ-loop Inv-entries μ-entries
 differs-16-requires c κs =
-    let entries = c .before .before .before .before .before .before .before .before .before .pre in
-    let inside = entries .inside _ (c .before .before .before .before .entries-test .taken) in
-    (omega arith, omega arith)
+    let inside = begun (c .before) .inside in (omega arith, omega arith)
 
-entries-less-2 : tie.Need-entries-less-2 Inv-loop μ-loop Inv-entries μ-entries
-entries-less-2 c = omega arith
+entries-less : tie.Need-entries-less Inv-loop μ-loop Inv-entries μ-entries
+entries-less c = omega (arith, more (c .before .before .before .before), c .before .before .before .before .before .next-of-length .ensures .after)
 
-entries-again-2 : tie.Need-entries-again-2 Inv-loop μ-loop Inv-entries μ-entries
-entries-again-2 c =
-    let begun = compared-none (c .before .before .before .before .before .before .before .entries .inv)
-    (c .before .before .before .before .before .before .before .before .before .before .before .pre)
-    (c .before .before .before .before .before .before .entries-test .taken) (c .before .before .before .offset-of .ensures)
-    (sym (c .before .before .before .before .before .length-of .ensures) ∙ c .before .before .before .before .if1 .left) in
-    compared-other begun (differs-more (c .before .differs-16 .ensures (c .if3 .taken)) (c .before .before .if2 .taken))
+entries-again : tie.Need-entries-again Inv-loop μ-loop Inv-entries μ-entries
+entries-again c =
+    compared-other (begun (c .before .before .before))
+    (differs-more (c .before .differs-16 .ensures (c .if3 .taken)) (c .before .before .if2 .taken))
 
 loop-holds : tie.Need-loop-holds Inv-loop μ-loop Inv-entries μ-entries
-loop-holds c =
-    compared-none (c .before .before .before .before .before .entries .inv)
-    (c .before .before .before .before .before .before .before .before .before .pre)
-    (c .before .before .before .before .entries-test .taken) (c .before .offset-of .ensures)
-    (sym (c .before .before .before .length-of .ensures) ∙ c .before .before .if1 .left)
+loop-holds c = begun (c .before)
 
 add-if4 : tie.Need-add-if4 Inv-loop μ-loop Inv-entries μ-entries
 add-if4 c = omega arith
@@ -77,11 +78,11 @@ shared-slice-read-if4 c = omega arith
 shared-slice-read-if4-2 : tie.Need-shared-slice-read-if4-2 Inv-loop μ-loop Inv-entries μ-entries
 shared-slice-read-if4-2 c = omega arith
 
-entries-less-3 : tie.Need-entries-less-3 Inv-loop μ-loop Inv-entries μ-entries
-entries-less-3 c = omega arith
+entries-less-2 : tie.Need-entries-less-2 Inv-loop μ-loop Inv-entries μ-entries
+entries-less-2 c = omega (arith, more (c .before .before .before .before .before .before .before), c .before .before .before .before .before .before .before .before .next-of-length .ensures .after)
 
-entries-again-3 : tie.Need-entries-again-3 Inv-loop μ-loop Inv-entries μ-entries
-entries-again-3 c =
+entries-again-2 : tie.Need-entries-again-2 Inv-loop μ-loop Inv-entries μ-entries
+entries-again-2 c =
     compared-other (c .before .before .before .before .loop .inv)
     (record { index = _; within = c .before .before .before .loop-test .taken; other = c .if4 .taken })
 
@@ -93,17 +94,16 @@ loop-less c = omega arith
 
 loop-again : tie.Need-loop-again Inv-loop μ-loop Inv-entries μ-entries
 loop-again c =
-    compared-more (c .before .before .before .before .loop .inv) (c .before .before .before .loop-test .taken)
-    (c .if4 .left)
+    compared-more (c .before .before .before .before .loop .inv) (c .before .before .before .loop-test .taken) (c .if4 .left)
 
-sub-t20 : tie.Need-sub-t20 Inv-loop μ-loop Inv-entries μ-entries
-sub-t20 c = omega arith
-
-returns : tie.Need-returns Inv-loop μ-loop Inv-entries μ-entries
-returns c = omega (arith, compared-all (c .before .loop .inv) (c .loop-test .left))
+cast-t19 : tie.Need-cast-t19 Inv-loop μ-loop Inv-entries μ-entries
+cast-t19 c = omega arith
 
 returns-2 : tie.Need-returns-2 Inv-loop μ-loop Inv-entries μ-entries
-returns-2 c = searched-all (c .before .entries .inv) (c .entries-test .left)
+returns-2 c = compared-all (c .before .loop .inv) (c .loop-test .left)
+
+returns-3 : tie.Need-returns-3 Inv-loop μ-loop Inv-entries μ-entries
+returns-3 c = searched-all (c .before .entries .inv) (c .entries-test .left)
 
 pub search-spec : {M : Type 1} → statement M
 search-spec =
@@ -113,25 +113,24 @@ search-spec =
     μ-loop
     Inv-entries
     μ-entries
+    cast-count
     entries-holds
-    cast-entry
-    add-candidate
-    length-of-requires
-    entries-less
-    entries-again
+    next-of-length-requires
+    returns
+    add-next
     offset-of-requires
     differs-16-requires
-    entries-less-2
-    entries-again-2
+    entries-less
+    entries-again
     loop-holds
     add-if4
     shared-slice-read-if4
     shared-slice-read-if4-2
-    entries-less-3
-    entries-again-3
+    entries-less-2
+    entries-again-2
     add-i
     loop-less
     loop-again
-    sub-t20
-    returns
-    returns-2)
+    cast-t19
+    returns-2
+    returns-3)
