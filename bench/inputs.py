@@ -1,10 +1,12 @@
-"""Writes the inputs of the measurement, 1 MiB each and the same every time, to the folder named as the argument."""
+"""Writes the inputs of the measurement, the same every time, to the folder named as the argument: jobs of 1 MiB, and
+label-like bytes with which the stores are filled."""
 
 import pathlib
 import random
 import sys
 
 SIZE = 1 << 20
+FILLING = 8 << 20
 
 STREETS = ["Hafenweg", "Lindenallee", "Am Markt", "Industriestr.", "Bahnhofstr.", "Oak Lane", "Mill Road"]
 TOWNS = ["Kiel", "Lübeck", "Bremen", "Utrecht", "Leeds", "Aarhus", "Gdańsk"]
@@ -39,14 +41,14 @@ def escpos_slip(dice, counter):
     return b"".join(lines)
 
 
-def label(dice):
-    parts, size, counter = [], 0, 4711
-    while size < SIZE:
+def label(dice, length, counter):
+    parts, size = [], 0
+    while size < length:
         counter += 1
         part = zpl_label(dice, counter) if dice.random() < 0.8 else escpos_slip(dice, counter)
         parts.append(part)
         size += len(part)
-    return b"".join(parts)[:SIZE]
+    return b"".join(parts)[:length]
 
 
 def main():
@@ -54,7 +56,8 @@ def main():
     folder.mkdir(parents=True, exist_ok=True)
     dice = random.Random(20240501)
     (folder / "random").write_bytes(dice.randbytes(SIZE))
-    (folder / "label").write_bytes(label(dice))
+    (folder / "label").write_bytes(label(dice, SIZE, 4711))
+    (folder / "filling").write_bytes(label(dice, FILLING, 20000))
     (folder / "zero").write_bytes(bytes(SIZE))
     (folder / "rising").write_bytes(bytes(range(256)) * (SIZE // 256))
 

@@ -11,7 +11,7 @@ pub fn chunk_count(window: u32, job: &[u8]) -> u64 {
         16..=31 => by_blocks::<1>(window as usize, job),
         32..=63 => by_blocks::<2>(window as usize, job),
         64..=1024 => by_blocks::<4>(window as usize, job),
-        _ => crate::baseline::chunk_count(window, job),
+        _ => crate::plain::chunker::chunk_count_1(window, job),
     }
 }
 

@@ -1,0 +1,156 @@
+//! The comparison of admissions, looks and rebuildings.
+
+use crate::agreement::{agree, Sequence};
+use crate::interface::{
+    Admitted, Head, DIRECTORY_LIMIT, JOB_LIMIT, POOL_LIMIT, RECIPE_LIMIT, WINDOW_LIMIT,
+};
+use crate::store::Store;
+use crate::{library, plain};
+
+type Admit = fn(&mut Head, &mut [u8], &mut [u32], &mut [u32], &[u8], &mut Admitted) -> u32;
+type Look = fn(&Head, &[u8], &[u32], u32, &mut [u64; 2]) -> u32;
+type Rebuild = fn(&Head, &[u8], &[u32], &[u32], &mut [u8], &mut u64) -> u32;
+
+const ADMISSIONS: [(&str, Admit); 2] = [
+    ("library", library::admit),
+    ("plain Rust", plain::store::admit),
+];
+const LOOKS: [(&str, Look); 2] = [
+    ("library", library::look),
+    ("plain Rust", plain::store::look),
+];
+const REBUILDINGS: [(&str, Rebuild); 2] = [
+    ("library", library::rebuild),
+    ("plain Rust", plain::rebuild::rebuild),
+];
+
+const STORES: usize = 50_000;
+const JOBS: usize = 3;
+
+/// Compares admissions, looks and rebuildings over small stores of any contents, and over memory at its limits, in which
+/// every ground of a store holds.
+pub fn compare_small_stores() {
+    let mut sequence = Sequence(0x9e37_79b9_7f4a_7c15);
+    for _ in 0..STORES {
+        let mut store = any_store(&mut sequence);
+        let mut recipe = any_numbers(&mut sequence, 16);
+        for _ in 0..JOBS {
+            let job = sequence.job(40);
+            compare_admissions(&mut store, &mut recipe, &job);
+        }
+        let used = sequence.below(recipe.len() as u64 + 1) as usize;
+        compare_looks(&store, sequence.below(8) as u32);
+        compare_rebuildings(&store, &recipe[..used], sequence.below(80) as usize);
+    }
+    compare_at_limits();
+}
+
+/// Fewer than `bound` numbers below 8.
+fn any_numbers(sequence: &mut Sequence, bound: u64) -> Vec<u32> {
+    (0..sequence.below(bound))
+        .map(|_| sequence.below(8) as u32)
+        .collect()
+}
+
+/// A store of any contents, whose head is mostly that of a fresh one.
+fn any_store(sequence: &mut Sequence) -> Store {
+    let window = sequence.one_of(&[0, 1, 1, 1, 2, 2, 3, 16, WINDOW_LIMIT, WINDOW_LIMIT + 1]);
+    let mut head = Head::fresh(window);
+    if sequence.below(4) == 0 {
+        head.chunks = sequence.below(4) as u32;
+        head.filled = sequence.below(8) as u32;
+    }
+    Store {
+        head,
+        pool: sequence.job(80),
+        directory: any_numbers(sequence, 24),
+    }
+}
+
+/// Compares what the admissions tell and leave, and keeps what they leave.
+pub fn compare_admissions(store: &mut Store, recipe: &mut Vec<u32>, job: &[u8]) {
+    let results = ADMISSIONS.map(|(name, admit)| {
+        let (mut store, mut recipe) = (store.clone(), recipe.clone());
+        let mut admitted = Admitted {
+            counts: [1; 3],
+            saving: 1,
+        };
+        let Store {
+            head,
+            pool,
+            directory,
+        } = &mut store;
+        let refusal = admit(head, pool, directory, &mut recipe, job, &mut admitted);
+        (name, (refusal, admitted, store, recipe))
+    });
+    let Head { window, chunks, .. } = store.head;
+    let what = || format!("admission, window {window}, after {chunks} chunks");
+    let (_, _, left, numbers) = agree(what, results);
+    (*store, *recipe) = (left, numbers);
+}
+
+/// Compares what the looks at a chunk tell.
+pub fn compare_looks(store: &Store, number: u32) {
+    let results = LOOKS.map(|(name, look)| {
+        let mut stretch = [1, 1];
+        let refusal = look(
+            &store.head,
+            &store.pool,
+            &store.directory,
+            number,
+            &mut stretch,
+        );
+        (name, (refusal, stretch))
+    });
+    agree(
+        || format!("look at chunk {number} of {}", store.head.chunks),
+        results,
+    );
+}
+
+/// Compares what the rebuildings tell and leave in an output of some length, which is given back.
+pub fn compare_rebuildings(store: &Store, recipe: &[u32], length: usize) -> Vec<u8> {
+    let Store {
+        head,
+        pool,
+        directory,
+    } = store;
+    let results = REBUILDINGS.map(|(name, rebuild)| {
+        let mut output = vec![0xaa; length];
+        let mut written = 1;
+        let refusal = rebuild(head, pool, directory, recipe, &mut output, &mut written);
+        (name, (refusal, written, output))
+    });
+    let what = || {
+        format!(
+            "rebuilding, window {}, {} numbers",
+            head.window,
+            recipe.len()
+        )
+    };
+    agree(what, results).2
+}
+
+/// Compares memory and jobs at their limits and past them, all of zeros.
+fn compare_at_limits() {
+    const AT: [usize; 4] = [POOL_LIMIT, DIRECTORY_LIMIT, RECIPE_LIMIT, JOB_LIMIT];
+    for past in [
+        [0, 0, 0, 0],
+        [1, 0, 0, 0],
+        [0, 2, 0, 0],
+        [0, 0, 1, 0],
+        [0, 0, 0, 1],
+    ] {
+        let [pool, directory, recipe, job] = [0, 1, 2, 3].map(|k| AT[k] + past[k]);
+        let mut store = Store {
+            head: Head::fresh(WINDOW_LIMIT),
+            pool: vec![0; pool],
+            directory: vec![0; directory],
+        };
+        let mut recipe = vec![0; recipe];
+        compare_admissions(&mut store, &mut recipe, &vec![0; job]);
+        compare_looks(&store, 0);
+        compare_rebuildings(&store, &recipe[recipe.len() - RECIPE_LIMIT..], JOB_LIMIT);
+        compare_rebuildings(&store, &recipe, JOB_LIMIT);
+    }
+}

@@ -1,0 +1,143 @@
+//! The measured library, declared as `include/hirunvel.h` does, with a safe function for each that is measured.
+
+use crate::interface::{Admitted, Fed, Head, Scanner};
+
+#[link(name = "chunk_count", kind = "static")]
+extern "C" {
+    fn hirunvel_chunk_count(window: u32, job: *const u8, job_len: usize) -> u64;
+}
+
+#[link(name = "hirunvel", kind = "static")]
+extern "C" {
+    fn hirunvel_scanner_feed(
+        scanner: *mut Scanner,
+        part: *const u8,
+        part_len: usize,
+        fed: *mut Fed,
+    ) -> u32;
+    fn hirunvel_store_admit(
+        head: *mut Head,
+        pool: *mut u8,
+        pool_len: usize,
+        directory: *mut u32,
+        directory_len: usize,
+        recipe: *mut u32,
+        recipe_len: usize,
+        job: *const u8,
+        job_len: usize,
+        counts: *mut [u64; 3],
+        saving: *mut i64,
+    ) -> u32;
+    fn hirunvel_store_look(
+        head: *const Head,
+        pool: *const u8,
+        pool_len: usize,
+        directory: *const u32,
+        directory_len: usize,
+        number: u32,
+        stretch: *mut [u64; 2],
+    ) -> u32;
+    fn hirunvel_rebuild(
+        head: *const Head,
+        pool: *const u8,
+        pool_len: usize,
+        directory: *const u32,
+        directory_len: usize,
+        recipe: *const u32,
+        recipe_len: usize,
+        output: *mut u8,
+        output_len: usize,
+        written: *mut u64,
+    ) -> u32;
+}
+
+/// The number of chunks of a job; 0 where the window is refused.
+pub fn chunk_count(window: u32, job: &[u8]) -> u64 {
+    // SAFETY: the pointer and the length are those of a slice, which is only read.
+    unsafe { hirunvel_chunk_count(window, job.as_ptr(), job.len()) }
+}
+
+/// Moves a scanner on over a part.
+pub fn feed(scanner: &mut Scanner, part: &[u8], fed: &mut Fed) -> u32 {
+    // SAFETY: the part is a slice, which is only read; `Scanner` and `Fed` are laid out as the header's arrays, and the
+    // references to them are exclusive.
+    unsafe { hirunvel_scanner_feed(scanner, part.as_ptr(), part.len(), fed) }
+}
+
+/// Admits a job.
+pub fn admit(
+    head: &mut Head,
+    pool: &mut [u8],
+    directory: &mut [u32],
+    recipe: &mut [u32],
+    job: &[u8],
+    admitted: &mut Admitted,
+) -> u32 {
+    // SAFETY: each pointer and its length are those of a slice, exclusive where it is written; `Head` is laid out as the
+    // header's array, and the references to it and to the counts are exclusive.
+    unsafe {
+        hirunvel_store_admit(
+            head,
+            pool.as_mut_ptr(),
+            pool.len(),
+            directory.as_mut_ptr(),
+            directory.len(),
+            recipe.as_mut_ptr(),
+            recipe.len(),
+            job.as_ptr(),
+            job.len(),
+            &mut admitted.counts,
+            &mut admitted.saving,
+        )
+    }
+}
+
+/// Finds a chunk's stretch of the pool.
+pub fn look(
+    head: &Head,
+    pool: &[u8],
+    directory: &[u32],
+    number: u32,
+    stretch: &mut [u64; 2],
+) -> u32 {
+    // SAFETY: each pointer and its length are those of a slice, which is only read; `Head` is laid out as the header's
+    // array, and the reference to the stretch is exclusive.
+    unsafe {
+        hirunvel_store_look(
+            head,
+            pool.as_ptr(),
+            pool.len(),
+            directory.as_ptr(),
+            directory.len(),
+            number,
+            stretch,
+        )
+    }
+}
+
+/// Writes the chunks that a recipe names to the output.
+pub fn rebuild(
+    head: &Head,
+    pool: &[u8],
+    directory: &[u32],
+    recipe: &[u32],
+    output: &mut [u8],
+    written: &mut u64,
+) -> u32 {
+    // SAFETY: each pointer and its length are those of a slice, exclusive for the output; `Head` is laid out as the
+    // header's array, and the reference to the number of bytes is exclusive.
+    unsafe {
+        hirunvel_rebuild(
+            head,
+            pool.as_ptr(),
+            pool.len(),
+            directory.as_ptr(),
+            directory.len(),
+            recipe.as_ptr(),
+            recipe.len(),
+            output.as_mut_ptr(),
+            output.len(),
+            written,
+        )
+    }
+}

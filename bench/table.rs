@@ -1,0 +1,104 @@
+//! The printed tables: ratios, and absolute figures.
+
+use crate::timing::{best, Contestant};
+use std::time::Duration;
+
+/// What stands above the columns and before the rows. Case `row * columns.len() + column` stands in a row and a column.
+pub struct Axes {
+    pub corner: &'static str,
+    pub columns: Vec<String>,
+    pub rows: Vec<String>,
+}
+
+impl Axes {
+    pub fn new<C: ToString, R: ToString>(corner: &'static str, columns: &[C], rows: &[R]) -> Self {
+        Self {
+            corner,
+            columns: columns.iter().map(C::to_string).collect(),
+            rows: rows.iter().map(R::to_string).collect(),
+        }
+    }
+
+    /// A table as text, with a figure for each case.
+    pub fn table(&self, title: &str, figure: impl Fn(usize) -> String) -> String {
+        let width = self.rows.iter().map(String::len).max().unwrap_or(0);
+        let width = width.max(self.corner.len());
+        let mut text = format!("\n{title}\n{:>width$}", self.corner);
+        for column in &self.columns {
+            text += &format!("{column:>10}");
+        }
+        for (row, name) in self.rows.iter().enumerate() {
+            text += &format!("\n{name:>width$}");
+            for column in 0..self.columns.len() {
+                text += &format!("{:>10}", figure(row * self.columns.len() + column));
+            }
+        }
+        text
+    }
+}
+
+/// What is measured: its title, the contestants, of which the first is the library, and a figure for the nanoseconds of a
+/// turn at a case, in some unit.
+pub struct Contest<'a, C> {
+    pub title: &'a str,
+    pub contestants: &'a [Contestant<C>],
+    pub unit: &'a str,
+    pub figure: fn(&C, f64) -> f64,
+}
+
+/// The tables of a part of the run.
+#[derive(Default)]
+pub struct Report {
+    pub ratios: Vec<String>,
+    pub figures: Vec<String>,
+}
+
+impl Report {
+    /// Measures, and adds the ratios of the first contestant to each other one and the figures of all.
+    pub fn measure<C>(
+        &mut self,
+        time: Duration,
+        contest: &Contest<C>,
+        axes: &Axes,
+        cases: &mut [C],
+    ) {
+        let Contest { title, unit, .. } = contest;
+        let best = best(time, cases, contest.contestants);
+        let rounds = best.rounds;
+        for (which, (name, _)) in contest.contestants.iter().enumerate() {
+            let nanoseconds = |case: usize| best.nanoseconds[case][which];
+            if which > 0 {
+                let title = format!("{title}: {} / {name}", contest.contestants[0].0);
+                let times = |case: usize| nanoseconds(case) / best.nanoseconds[case][0];
+                self.ratios
+                    .push(axes.table(&title, |case| ratio(times(case))));
+            }
+            let title = format!("{title}: {name}, {unit}, best of {rounds} rounds");
+            let figure = |case: usize| (contest.figure)(&cases[case], nanoseconds(case));
+            self.figures
+                .push(axes.table(&title, |case| number(figure(case))));
+        }
+    }
+}
+
+/// A ratio with two places, three where it is small.
+pub fn ratio(value: f64) -> String {
+    let places = if value < 0.1 { 3 } else { 2 };
+    format!("{value:.places$}")
+}
+
+/// A number with three digits or more.
+pub fn number(value: f64) -> String {
+    let places = match value {
+        100.0.. => 0,
+        10.0.. => 1,
+        1.0.. => 2,
+        _ => 3,
+    };
+    format!("{value:.places$}")
+}
+
+/// Bytes in a turn of some nanoseconds, in MB/s.
+pub fn megabytes_per_second(bytes: usize, nanoseconds: f64) -> f64 {
+    bytes as f64 * 1000.0 / nanoseconds
+}
