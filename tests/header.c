@@ -1,0 +1,14 @@
+/* Compiled as C and as C++: the header stands alone, can be included twice, and has the scope's numbers. */
+#include "hirunvel.h"
+#include "hirunvel.h"
+
+#if HIRUNVEL_ACCEPTED != 0 || HIRUNVEL_WINDOW != 1 || HIRUNVEL_UNSOUND != 2 || HIRUNVEL_JOB_LENGTH != 3 \
+    || HIRUNVEL_MEMORY_LIMIT != 4 || HIRUNVEL_HEAD != 5 || HIRUNVEL_RECIPE_FULL != 6 || HIRUNVEL_DIRECTORY_FULL != 7 \
+    || HIRUNVEL_POOL_FULL != 8 || HIRUNVEL_CHUNK_NUMBER != 9 || HIRUNVEL_OUTPUT_SHORT != 10
+#error "a refusal has another number than in the scope"
+#endif
+
+#if HIRUNVEL_WINDOW_LIMIT != 1024 || HIRUNVEL_JOB_LIMIT != 16777216 || HIRUNVEL_POOL_LIMIT != 67108864 \
+    || HIRUNVEL_DIRECTORY_LIMIT != 131070 || HIRUNVEL_RECIPE_LIMIT != 65535
+#error "a limit is not the scope's"
+#endif
