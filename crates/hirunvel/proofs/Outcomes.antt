@@ -4,7 +4,6 @@ use mathlib.Core.Path.{_≡_}
 use mathlib.Core.Bool.{true, false}
 use mathlib.Core.List.{List, [], _∷_}
 use Rattle.refusal.specs.Number.{numberOf, accepted}
-use Rattle.store.specs.declared.Admitted.{Admitted}
 use Rattle.store.specs.Admission.{Admission, admitted}
 use Rattle.hirunvel.specs.Storing.{headOf, headNumbers, StoreAdmission, storeAdmitted}
 

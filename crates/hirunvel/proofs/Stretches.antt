@@ -3,18 +3,16 @@ use Prim.Native.Nat.{ℕ, _+_, _*_, _≤_, _<_}
 use native.Mathlib.Omega.{arith}
 use mathlib.Core.Path.{_≡_, refl, sym}
 use mathlib.Core.Bool.{Bool, true, false, cond, true≢false}
-use mathlib.Core.List.{List, [], _∷_}
+use mathlib.Core.List.{List}
 use lib.Dec.{ltb}
 use lib.ListN.{length, getD, take, drop}
 use borrow.Author.Tests.{ltb-true, lt-leb}
 use Rattle.refusal.specs.Number.{accepted}
-use Rattle.refusal.specs.declared.Refusal.{Refusal}
 use Rattle.refusal.specs.declared.Refusal.the-variants.{Accepted, Window, MemoryLimit, Head as HeadMisfit}
 use Rattle.refusal.specs.declared.Refusal.the-variants.{ChunkNumber as NoChunk}
 use Rattle.chunker.specs.Scanner.{windowAllowed}
 use Rattle.store.specs.declared.Head.{Head}
 use Rattle.store.specs.declared.ChunkNumber.{ChunkNumber}
-use Rattle.store.specs.declared.Stretch.{Stretch}
 use Rattle.store.specs.Directory.{offsetAt, lengthAt, fits, storeAllowed}
 use Rattle.store.specs.Looking.{storeGround, lookGround, stretchOf, shown}
 use Rattle.store.proofs.Entries.{Placed, fits-entry}
