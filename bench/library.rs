@@ -1,4 +1,5 @@
-//! The measured library, declared as `include/hirunvel.h` does, with a safe function for each that is measured.
+//! The measured library, declared as `include/hirunvel.h` does, and the count of a job's chunks, an archive of its own;
+//! with a safe function for each that is measured.
 
 use crate::interface::{Admitted, Fed, Head, Scanner};
 
