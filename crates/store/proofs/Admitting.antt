@@ -73,6 +73,7 @@ entries-in : (head : Head) (pool directory : List ℕ) → fits head pool direct
 entries-in head pool directory h =
     record {
       entered = let facts = fits-facts head pool directory h in omega (arith, facts .counted);
+      some = λ i l. fits-entry head pool directory h i l .some;
       inside = λ i l. let p = fits-entry head pool directory h i l in omega (arith, p .within, p .inPool);
     }
 
@@ -94,6 +95,7 @@ module _ {head : Head} {f : Filling} {job : List ℕ} {at : ℕ} {asked : Ended}
         directory = a .directory;
         recipe = a .recipe;
         filled = fits-facts (headOf (head .window) f) (f .pool) (f .directory) (a .fitting) .inPool;
+        some = omega (arith, chunk-length, next .some);
         job = omega (arith, chunk-length, next .within, length-drop at job);
         counts = omega arith;
       }

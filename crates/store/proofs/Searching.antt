@@ -5,13 +5,15 @@ use native.Mathlib.Nat.{zero-add, add-zero, sub-zero}
 use native.Mathlib.Numerals.{add-one}
 use mathlib.Core.Path.{_≡_, ap, sym, _∙_}
 use mathlib.Core.List.{List}
-use lib.ListN.{length, getD, length-drop}
-use lib.Seq.{length-take-le, getD-take, getD-drop, ext-getD}
+use lib.ListN.{length, getD}
+use lib.Seq.{ext-getD}
 use borrow.Author.Count.{below-more}
-use Rattle.store.specs.Directory.{offsetAt, lengthAt, NextOfLength}
-use Rattle.store.specs.Contents.{chunkAt, chunksFrom, contents, Differs, number}
+use Rattle.store.specs.Directory.{offsetAt, lengthAt}
+use Rattle.store.specs.Contents.{chunkAt, chunksFrom, contents, number}
+use Rattle.store.specs.Candidates.{NextCandidate, Differs, EqualBlocks}
 use Rattle.store.specs.Ready.{EntriesIn}
 use Rattle.store.proofs.Sameness.{equal-same, same-other}
+use Rattle.store.proofs.Candidates.{entry-length, entry-byte}
 
 -- the number among n + 1 entries, by the first of them
 module _ (pool directory chunk : List ℕ) (i n : ℕ) where
@@ -23,15 +25,6 @@ module _ (pool directory chunk : List ℕ) (i n : ℕ) where
       → number (chunksFrom pool directory i (suc n)) chunk ≡ suc (number (chunksFrom pool directory (suc i) n) chunk)
   unfolding chunksFrom number
   number-later other = rw (same-other (chunkAt pool directory i) chunk other)
-
--- an entry whose bytes lie in the pool
-module _ (pool directory : List ℕ) (i : ℕ) (inside : offsetAt directory i + lengthAt directory i ≤ length pool) where
-  entry-length : length (chunkAt pool directory i) ≡ lengthAt directory i
-  entry-length = length-take-le _ _ (omega (arith, length-drop (offsetAt directory i) pool))
-
-  entry-byte : (k : ℕ) → k < lengthAt directory i
-      → getD (chunkAt pool directory i) k 0 ≡ getD pool (offsetAt directory i + k) 0
-  entry-byte k h = rw (getD-take, getD-drop)
 
 -- the entries from entry i on give what was asked
 pub record Searched (pool directory chunk : List ℕ) (count i : ℕ) : Type 0 where
@@ -67,51 +60,22 @@ module _ {pool directory chunk : List ℕ} {count i : ℕ} (s : Searched pool di
         let later = number-later pool directory chunk i (count - suc i) other in
         record { within = omega arith; gives = rw add-one (omega (arith, rw first-left at (s .gives))) }
 
-    -- the entry has another length
-    pub searched-other-length : EntriesIn pool directory count → (lengthAt directory i ≡ length chunk → ⊥)
-        → Searched pool directory chunk count (i + 1)
-    searched-other-length e h =
-        searched-more (λ p. h (sym (entry-length pool directory i (e .inside i more)) ∙ ap length p))
-
--- on the way to the next entry of a length: those from `from` on, before `entry`, have others
-pub record Skipped (directory : List ℕ) (from count size entry : ℕ) : Type 0 where
-  pub after : from ≤ entry
-  pub within : entry ≤ count
-  pub room : count * 2 ≤ length directory
-  pub others : (q : ℕ) → q < entry → from ≤ q → lengthAt directory q ≡ size → ⊥
-
--- the entry has another too
-pub skips-one : {directory : List ℕ} {from count size entry : ℕ} → Skipped directory from count size entry → entry < count
-    → (lengthAt directory entry ≡ size → ⊥) → Skipped directory from count size (entry + 1)
-skips-one {entry} s more other =
-    record {
-      after = omega (arith, s .after);
-      within = omega arith;
-      room = s .room;
-      others = below-more _ entry (s .others) (λ _. other);
-    }
-
--- entries of another length are passed
-pub searched-on : {pool directory chunk : List ℕ} {count i : ℕ} → EntriesIn pool directory count → (n : ℕ) → i + n ≤ count
-    → ((q : ℕ) → q < i + n → i ≤ q → lengthAt directory q ≡ length chunk → ⊥)
+-- entries that hold other chunks are passed
+searched-on : {pool directory chunk : List ℕ} {count i : ℕ} → (n : ℕ) → i + n ≤ count
+    → ((q : ℕ) → q < i + n → i ≤ q → chunkAt pool directory q ≡ chunk → ⊥)
     → Searched pool directory chunk count i → Searched pool directory chunk count (i + n)
-searched-on e zero h others s = rw add-zero s
-searched-on {i} e (suc n) h others s =
-    let before = searched-on e n (omega arith) (λ q a b. others q (omega arith) b) s in
+searched-on zero h others s = rw add-zero s
+searched-on {i} (suc n) h others s =
+    let before = searched-on n (omega arith) (λ q a b. others q (omega arith) b) s in
     let same : i + n + 1 ≡ i + suc n = omega arith in
-    rw same at (searched-other-length before (omega arith) e (others (i + n) (omega arith) (omega arith)))
+    rw same at (searched-more before (omega arith) (others (i + n) (omega arith) (omega arith)))
 
--- up to the next that has the chunk's
-pub searched-to : {pool directory chunk : List ℕ} {count i j : ℕ} → EntriesIn pool directory count
-    → NextOfLength directory i count (length chunk) j → Searched pool directory chunk count i
-    → Searched pool directory chunk count j
-searched-to {i} {j} e next s =
+-- up to the next candidate
+pub searched-to : {pool directory chunk : List ℕ} {count i j : ℕ} → NextCandidate pool directory chunk i count j
+    → Searched pool directory chunk count i → Searched pool directory chunk count j
+searched-to {i} {j} next s =
     let sum : i + (j - i) ≡ j = omega (arith, next .after) in
-    rw sum at (searched-on e (j - i) (omega (arith, next .within, next .after)) (λ q a b. next .others q (omega (arith, next .after)) b) s)
-
--- bytes that differ are among any more bytes
-pub differs-more : {pool chunk : List ℕ} {from m n : ℕ} → Differs pool from chunk m → m ≤ n → Differs pool from chunk n
-differs-more d h = record { index = d .index; within = omega arith; other = d .other }
+    rw sum at (searched-on (j - i) (omega (arith, next .within, next .after)) (λ q a b. next .others q (omega (arith, next .after)) b) s)
 
 -- entry i starts at `from` and has the chunk's length and its first n bytes
 pub record Compared (pool directory chunk : List ℕ) (count i from n : ℕ) : Type 0 where
@@ -139,6 +103,19 @@ compared-none {i} s e more start long =
     }
 
 module _ {pool directory chunk : List ℕ} {count i from n : ℕ} (c : Compared pool directory chunk count i from n) where
+  -- whole blocks agree
+  pub compared-blocks : {m : ℕ} → EqualBlocks pool from chunk m → Compared pool directory chunk count i from m
+  compared-blocks b =
+      record {
+        searched = c .searched;
+        more = c .more;
+        start = c .start;
+        long = c .long;
+        inside = c .inside;
+        within = b .within;
+        agree = λ k h. b .agree .each k h (omega arith);
+      }
+
   -- the next byte agrees too
   pub compared-more : n < length chunk → getD pool (from + n) 0 ≡ getD chunk n 0
       → Compared pool directory chunk count i from (n + 1)

@@ -1,10 +1,9 @@
 -- The chunks that a store holds, and the number that a chunk has or gets.
-use Prim.Native.Nat.{ℕ, zero, suc, _+_, _<_}
-use mathlib.Core.Path.{_≡_}
+use Prim.Native.Nat.{ℕ, zero, suc}
 use mathlib.Core.Bool.{Bool, true, false, cond, _&&_}
 use mathlib.Core.List.{List, [], _∷_}
 use lib.Dec.{eqb}
-use lib.ListN.{take, drop, getD}
+use lib.ListN.{take, drop}
 use Rattle.store.specs.Directory.{offsetAt, lengthAt}
 
 -- the piece's own stretch of the pool
@@ -26,12 +25,6 @@ same [] [] = true
 same [] (c ∷ cs) = false
 same (b ∷ bs) [] = false
 same (b ∷ bs) (c ∷ cs) = eqb b c && same bs cs
-
--- one of the n bytes from `from` on is not the chunk's
-pub record Differs (pool : List ℕ) (from : ℕ) (chunk : List ℕ) (n : ℕ) : Type 0 where
-  pub index : ℕ
-  pub within : index < n
-  pub other : getD pool (from + index) 0 ≡ getD chunk index 0 → ⊥
 
 -- "The answer is the lowest-numbered piece with the same length and bytes"; where there is none, the next unused number
 unfoldable pub number : List (List ℕ) → List ℕ → ℕ

@@ -1,6 +1,5 @@
 -- The directory: "two an entry: offset in the pool from 0, and length", and the limits of lent memory.
-use Prim.Native.Nat.{ℕ, zero, suc, _+_, _*_, _/_, _%_, _≤_, _<_}
-use mathlib.Core.Path.{_≡_}
+use Prim.Native.Nat.{ℕ, zero, suc, _+_, _*_, _/_, _%_}
 use mathlib.Core.Bool.{Bool, _&&_}
 use mathlib.Core.List.{List}
 use lib.Dec.{leb, eqb}
@@ -20,13 +19,6 @@ lengthAt directory i = getD directory (i * stride + 1) 0
 -- the entries that a directory has room for
 abbrev pub entries : List ℕ → ℕ
 entries directory = length directory / stride
-
--- r is the first entry from `from` on, before entry n, that has a length, or n
-pub record NextOfLength (directory : List ℕ) (from n size r : ℕ) : Type 0 where
-  pub after : from ≤ r
-  pub within : r ≤ n
-  pub others : (q : ℕ) → q < r → from ≤ q → lengthAt directory q ≡ size → ⊥
-  pub has : r < n → lengthAt directory r ≡ size
 
 -- an entry with this offset and length starts at `from`, and its length is 1 to `longest`
 abbrev pub entryAllowed : ℕ → ℕ → ℕ → ℕ → Bool

@@ -1,5 +1,6 @@
 pub mod Directory
 pub mod Contents
+pub mod Candidates
 pub mod Filling
 pub mod Ready
 pub mod Admission

@@ -1,10 +1,11 @@
 // Reading and writing pool and directory.
 ghost use mathlib.Core.Path.{_≡_};
-ghost use mathlib.Core.Bool.{true};
+ghost use mathlib.Core.Bool.{true, false};
 ghost use Prim.Native.Nat.{ℕ, _+_, _*_, _≤_, _<_};
 ghost use lib.ListN.{length, set};
-ghost use Rattle.store.specs.Directory.{offsetAt, lengthAt, NextOfLength};
-ghost use Rattle.store.specs.Contents.{contents, number, Differs};
+ghost use Rattle.store.specs.Directory.{offsetAt, lengthAt};
+ghost use Rattle.store.specs.Contents.{contents, number};
+ghost use Rattle.store.specs.Candidates.{Next, OfLength, Alike, NextCandidate, Differs, Agree, EqualBlocks};
 ghost use Rattle.store.specs.Filling.{written};
 ghost use Rattle.store.specs.Ready.{EntriesIn};
 use crate::ChunkNumber;
@@ -26,12 +27,19 @@ pub fn length_of(directory: &[u32], entry: usize) -> usize
     directory[entry * 2 + 1] as usize
 }
 
+// A length and a first byte as one number, so that one comparison tests both.
+fn key(length: u32, first: u8) -> u64
+    ensures { λ r. ⌜ r ≡ length * 256 + first ⌝ }
+{
+    length as u64 * 256 + first as u64
+}
+
 // The first entry from `from` on, before entry `count`, that has `size` bytes; `count` where there is
 // none.
 fn next_of_length(directory: &[u32], from: usize, count: usize, size: usize) -> usize
     requires { ⌜ from ≤ count ⌝ }
     requires { ⌜ count * 2 ≤ length (now directory) ⌝ }
-    ensures { λ r. ⌜ NextOfLength (now (directory .entry)) from count size r ⌝ }
+    ensures { λ r. ⌜ Next (OfLength (now (directory .entry)) size) from count r ⌝ }
 {
     let mut entry = from;
     while entry < count {
@@ -43,18 +51,59 @@ fn next_of_length(directory: &[u32], from: usize, count: usize, size: usize) -> 
     count
 }
 
-// Whether the 16 bytes from `from` on are not the chunk's first 16. All are compared, so that the
+// The same with a first byte besides.
+fn next_alike(
+    pool: &[u8],
+    directory: &[u32],
+    from: usize,
+    count: usize,
+    size: u32,
+    first: u8,
+) -> usize
+    requires { ⌜ from ≤ count ⌝ }
+    requires { ⌜ EntriesIn (now pool) (now directory) count ⌝ }
+    ensures { λ r. ⌜ Next (Alike (now (pool .entry)) (now (directory .entry)) size first) from count r ⌝ }
+{
+    let wanted = key(size, first);
+    let mut entry = from;
+    while entry < count {
+        let offset = directory[entry * 2];
+        let length = directory[entry * 2 + 1];
+        if key(length, pool[offset as usize]) == wanted {
+            return entry;
+        }
+        entry += 1;
+    }
+    count
+}
+
+// The first entry from `from` on that can hold the chunk: none before it does, and it has as many
+// bytes. Short chunks often have the same length, so that their first bytes are compared too.
+fn next_candidate(pool: &[u8], directory: &[u32], from: usize, count: usize, chunk: &[u8]) -> usize
+    requires { ⌜ from ≤ count ⌝ }
+    requires { ⌜ EntriesIn (now pool) (now directory) count ⌝ }
+    requires { ⌜ 1 ≤ length (now chunk) ⌝ }
+    ensures { λ r. ⌜ NextCandidate (now (pool .entry)) (now (directory .entry)) (now (chunk .entry)) from count r ⌝ }
+{
+    if chunk.len() < 16 {
+        return next_alike(pool, directory, from, count, chunk.len() as u32, chunk[0]);
+    }
+    next_of_length(directory, from, count, chunk.len())
+}
+
+// Whether the chunk's 16 bytes from `at` on are not those of the pool. All are compared, so that the
 // compiler compares them at once.
-fn differs_16(pool: &[u8], from: usize, chunk: &[u8]) -> bool
-    requires { ⌜ from + 16 ≤ length (now pool) ⌝ }
-    requires { ⌜ 16 ≤ length (now chunk) ⌝ }
-    ensures { λ r. ⌜ (r ≡ true → Differs (now (pool .entry)) from (now (chunk .entry)) 16) ⌝ }
+fn differs_16(pool: &[u8], from: usize, chunk: &[u8], at: usize) -> bool
+    requires { ⌜ from + length (now chunk) ≤ length (now pool) ⌝ }
+    requires { ⌜ at + 16 ≤ length (now chunk) ⌝ }
+    ensures { λ r. ⌜ (r ≡ true → Differs (now (pool .entry)) from (now (chunk .entry)) (at + 16)) ⌝ }
+    ensures { λ r. ⌜ (r ≡ false → Agree (now (pool .entry)) from (now (chunk .entry)) at (at + 16)) ⌝ }
 {
     let mut differs = false;
     let mut index = 0;
     while index < 16 {
-        let stored = pool[from + index];
-        let wanted = chunk[index];
+        let stored = pool[from + (at + index)];
+        let wanted = chunk[at + index];
         index += 1;
         if stored != wanted {
             differs = true;
@@ -63,27 +112,42 @@ fn differs_16(pool: &[u8], from: usize, chunk: &[u8]) -> bool
     differs
 }
 
+// How many of the chunk's bytes stand at `from` in the pool, in whole blocks of 16 up to the first that
+// differs.
+fn equal_blocks(pool: &[u8], from: usize, chunk: &[u8]) -> usize
+    requires { ⌜ from + length (now chunk) ≤ length (now pool) ⌝ }
+    ensures { λ r. ⌜ EqualBlocks (now (pool .entry)) from (now (chunk .entry)) r ⌝ }
+{
+    let mut at = 0;
+    while at + 16 <= chunk.len() {
+        if differs_16(pool, from, chunk, at) {
+            return at;
+        }
+        at += 16;
+    }
+    at
+}
+
 // The lowest number of an equal chunk, or the next unused number. A candidate has the same length,
-// and is dropped at its first unequal byte; the first 16 bytes are tested together.
+// and is dropped at its first unequal byte, or with the 16 bytes that have it.
 pub fn search(pool: &[u8], directory: &[u32], chunks: ChunkNumber, chunk: &[u8]) -> ChunkNumber
     requires { ⌜ EntriesIn (now pool) (now directory) (chunks .0) ⌝ }
+    requires { ⌜ 1 ≤ length (now chunk) ⌝ }
     ensures { λ r. ⌜ r .0 ≡ number (contents (now (pool .entry)) (now (directory .entry)) (chunks .0)) (now (chunk .entry)) ⌝ }
 {
     let count = chunks.0 as usize;
     let mut next = 0;
     'entries: while next < count {
-        let entry = next_of_length(directory, next, count, chunk.len());
+        let entry = next_candidate(pool, directory, next, count, chunk);
         if entry == count {
             return chunks;
         }
         next = entry + 1;
         let from = offset_of(directory, entry);
-        if 16 <= chunk.len() {
-            if differs_16(pool, from, chunk) {
-                continue 'entries;
-            }
+        let mut i = equal_blocks(pool, from, chunk);
+        if i + 16 <= chunk.len() {
+            continue 'entries;
         }
-        let mut i = 0;
         while i < chunk.len() {
             if pool[from + i] != chunk[i] {
                 continue 'entries;

@@ -2,37 +2,25 @@
 use Prim.Native.Nat.{_-_}
 use native.Mathlib.Omega.{arith}
 use mathlib.Core.Path.{sym, _∙_}
-use Rattle.store.proofs.Searching.{Skipped, skips-one}
+use Rattle.store.specs.Candidates.{OfLength}
+use Rattle.store.proofs.Candidates.{Skipped, skipped-none, skips-one, next-here, next-none}
 use Rattle.store.proofs.memory.next_of_length.Statement.{statement}
 use Rattle.store.proofs.memory.next_of_length.Tie as tie
 
 abbrev Inv-loop : tie.InvT-loop
-Inv-loop directory from count size entry₀ entry = Skipped directory from count size entry
+Inv-loop directory from count size entry₀ entry = Skipped (OfLength directory size) from count entry
 
 abbrev μ-loop : tie.MeasureT-loop
 μ-loop directory from count size entry₀ entry = count - entry
 
 loop-holds : tie.Need-loop-holds Inv-loop μ-loop
-loop-holds c =
-    record {
-      after = omega arith;
-      within = c .before .pre .0;
-      room = c .before .pre .1;
-      others = λ q a b. absurd (omega arith);
-    }
+loop-holds c = skipped-none (c .before .pre .0)
 
 length-of-requires : tie.Need-length-of-requires Inv-loop μ-loop
-length-of-requires c κs = omega (arith, c .before .loop .inv .room)
+length-of-requires c κs = omega (arith, c .before .before .before .pre .1)
 
 returns : tie.Need-returns Inv-loop μ-loop
-returns c =
-    let s = c .before .before .before .loop .inv in
-    record {
-      after = s .after;
-      within = s .within;
-      others = s .others;
-      has = λ _. sym (c .before .length-of .ensures) ∙ c .if1 .taken;
-    }
+returns c = next-here (c .before .before .before .loop .inv) (sym (c .before .length-of .ensures) ∙ c .if1 .taken)
 
 add-entry : tie.Need-add-entry Inv-loop μ-loop
 add-entry c = omega arith
@@ -45,14 +33,7 @@ loop-again c =
     skips-one (c .before .before .before .loop .inv) (c .before .before .loop-test .taken) (λ e. c .if1 .left (c .before .length-of .ensures ∙ e))
 
 returns-2 : tie.Need-returns-2 Inv-loop μ-loop
-returns-2 c =
-    let s = c .before .loop .inv in
-    record {
-      after = omega (arith, s .after, s .within);
-      within = omega arith;
-      others = λ q a b. s .others q (omega arith) b;
-      has = λ h. absurd (omega arith);
-    }
+returns-2 c = next-none (c .before .loop .inv) (c .loop-test .left)
 
 pub next-of-length-spec : {M : Type 1} → statement M
 next-of-length-spec =

@@ -2,8 +2,8 @@
 use Prim.Native.Nat.{_-_, _<_}
 use native.Mathlib.Omega.{arith}
 use lib.ListN.{length}
-use Rattle.store.proofs.Searching.{Searched, searched-none, searched-all, searched-to, differs-more}
-use Rattle.store.proofs.Searching.{Compared, compared-none, compared-more, compared-other, compared-all}
+use Rattle.store.proofs.Searching.{Searched, searched-none, searched-all, searched-to}
+use Rattle.store.proofs.Searching.{Compared, compared-none, compared-blocks, compared-more, compared-other, compared-all}
 use Rattle.store.proofs.memory.search.Statement.{statement}
 use Rattle.store.proofs.memory.search.Tie as tie
 
@@ -19,72 +19,81 @@ Inv-entries pool directory chunks chunk count next₀ next = Searched pool direc
 abbrev μ-entries : tie.MeasureT-entries
 μ-entries pool directory chunks chunk count next₀ next = count - next
 
+-- the place of the code where the function starts
+abbrev start-of : tie.In-entries Inv-loop μ-loop Inv-entries μ-entries → tie.Start Inv-loop μ-loop Inv-entries μ-entries
+start-of c = c .before .before .before .before .before .before
+
 cast-count : tie.Need-cast-count Inv-loop μ-loop Inv-entries μ-entries
 cast-count c = omega arith
 
 entries-holds : tie.Need-entries-holds Inv-loop μ-loop Inv-entries μ-entries
 entries-holds c = searched-none _ _ _ _
 
-next-of-length-requires : tie.Need-next-of-length-requires Inv-loop μ-loop Inv-entries μ-entries
-next-of-length-requires c κs = omega (arith, c .before .before .before .before .before .before .pre .entered)
+next-candidate-requires : tie.Need-next-candidate-requires Inv-loop μ-loop Inv-entries μ-entries
+next-candidate-requires c κs = (omega arith, (start-of c .pre .0, start-of c .pre .1))
 
--- the entries before the one found hold other chunks
-found : (c : tie.After-next-of-length Inv-loop μ-loop Inv-entries μ-entries) → let a = c .before .before .before .before .before .before .before .args in
-    Searched (a .pool .now) (a .directory .now) (a .chunk .now) (a .chunks .0) (c .next-of-length .result)
-found c = searched-to (c .before .before .before .before .before .before .before .pre) (c .next-of-length .ensures) (c .before .before .entries .inv)
+-- the entries before the candidate hold other chunks
+found : (c : tie.After-next-candidate Inv-loop μ-loop Inv-entries μ-entries) → let a = start-of (c .before) .args in
+    Searched (a .pool .now) (a .directory .now) (a .chunk .now) (a .chunks .0) (c .next-candidate .result)
+found c = searched-to (c .next-candidate .ensures) (c .before .before .entries .inv)
 
 returns : tie.Need-returns Inv-loop μ-loop Inv-entries μ-entries
 returns c = searched-all (found (c .before)) (omega (arith, c .if1 .taken))
 
 -- there is one
-more : (c : tie.Else1 Inv-loop μ-loop Inv-entries μ-entries) → c .before .next-of-length .result < c .before .before .before .before .before .before .before .before .args .chunks .0
-more c = let other = c .if1 .left in omega (arith, c .before .next-of-length .ensures .within)
+more : (c : tie.Else1 Inv-loop μ-loop Inv-entries μ-entries)
+    → c .before .next-candidate .result < start-of (c .before .before) .args .chunks .0
+more c = let other = c .if1 .left in omega (arith, c .before .next-candidate .ensures .within)
 
 add-next : tie.Need-add-next Inv-loop μ-loop Inv-entries μ-entries
 add-next c = omega (arith, more c)
 
 offset-of-requires : tie.Need-offset-of-requires Inv-loop μ-loop Inv-entries μ-entries
-offset-of-requires c κs = omega (arith, more c, c .before .before .before .before .before .before .before .before .pre .entered)
+offset-of-requires c κs = omega (arith, more c, start-of (c .before .before) .pre .0 .entered)
 
 -- no byte of it is compared yet
-begun : (c : tie.After-offset-of Inv-loop μ-loop Inv-entries μ-entries) → let a = c .before .before .before .before .before .before .before .before .before .args in
-    Compared (a .pool .now) (a .directory .now) (a .chunk .now) (a .chunks .0) (c .before .before .next-of-length .result)
-    (c .offset-of .result) 0
+begun : (c : tie.After-offset-of Inv-loop μ-loop Inv-entries μ-entries) → let entry = c .before .before in
+    let a = start-of (entry .before) .args in
+    Compared (a .pool .now) (a .directory .now) (a .chunk .now) (a .chunks .0) (entry .next-candidate .result) (c .offset-of .result) 0
 begun c =
-    compared-none (found (c .before .before)) (c .before .before .before .before .before .before .before .before .before .pre) (more (c .before)) (c .offset-of .ensures)
-    (c .before .before .next-of-length .ensures .has (more (c .before)))
+    let entry = c .before .before in
+    compared-none (found entry) (start-of (entry .before) .pre .0) (more (c .before)) (c .offset-of .ensures)
+    (entry .next-candidate .ensures .long (more (c .before)))
 
-differs-16-requires : tie.Need-differs-16-requires Inv-loop μ-loop Inv-entries μ-entries
-differs-16-requires c κs =
-    let inside = begun (c .before) .inside in (omega arith, omega arith)
+equal-blocks-requires : tie.Need-equal-blocks-requires Inv-loop μ-loop Inv-entries μ-entries
+equal-blocks-requires c κs = begun c .inside
+
+add-if2 : tie.Need-add-if2 Inv-loop μ-loop Inv-entries μ-entries
+add-if2 c = omega (arith, c .equal-blocks .ensures .within)
 
 entries-less : tie.Need-entries-less Inv-loop μ-loop Inv-entries μ-entries
-entries-less c = omega (arith, more (c .before .before .before .before), c .before .before .before .before .before .next-of-length .ensures .after)
+entries-less c =
+    let entry = c .before .before .before in omega (arith, more entry, entry .before .next-candidate .ensures .after)
 
 entries-again : tie.Need-entries-again Inv-loop μ-loop Inv-entries μ-entries
-entries-again c =
-    compared-other (begun (c .before .before .before))
-    (differs-more (c .before .differs-16 .ensures (c .if3 .taken)) (c .before .before .if2 .taken))
+entries-again c = compared-other (begun (c .before .before)) (c .before .equal-blocks .ensures .differs (c .if2 .taken))
 
 loop-holds : tie.Need-loop-holds Inv-loop μ-loop Inv-entries μ-entries
-loop-holds c = begun (c .before)
+loop-holds c = compared-blocks (begun (c .before .before)) (c .before .equal-blocks .ensures)
 
-add-if4 : tie.Need-add-if4 Inv-loop μ-loop Inv-entries μ-entries
-add-if4 c = omega arith
+add-if3 : tie.Need-add-if3 Inv-loop μ-loop Inv-entries μ-entries
+add-if3 c = omega arith
 
-shared-slice-read-if4 : tie.Need-shared-slice-read-if4 Inv-loop μ-loop Inv-entries μ-entries
-shared-slice-read-if4 c = omega arith
+shared-slice-read-if3 : tie.Need-shared-slice-read-if3 Inv-loop μ-loop Inv-entries μ-entries
+shared-slice-read-if3 c = omega arith
 
-shared-slice-read-if4-2 : tie.Need-shared-slice-read-if4-2 Inv-loop μ-loop Inv-entries μ-entries
-shared-slice-read-if4-2 c = omega arith
+shared-slice-read-if3-2 : tie.Need-shared-slice-read-if3-2 Inv-loop μ-loop Inv-entries μ-entries
+shared-slice-read-if3-2 c = omega arith
 
 entries-less-2 : tie.Need-entries-less-2 Inv-loop μ-loop Inv-entries μ-entries
-entries-less-2 c = omega (arith, more (c .before .before .before .before .before .before .before), c .before .before .before .before .before .before .before .before .next-of-length .ensures .after)
+entries-less-2 c =
+    let entry = c .before .before .before .before .before .before .before .before in
+    omega (arith, more entry, entry .before .next-candidate .ensures .after)
 
 entries-again-2 : tie.Need-entries-again-2 Inv-loop μ-loop Inv-entries μ-entries
 entries-again-2 c =
     compared-other (c .before .before .before .before .loop .inv)
-    (record { index = _; within = c .before .before .before .loop-test .taken; other = c .if4 .taken })
+    (record { index = _; within = c .before .before .before .loop-test .taken; other = c .if3 .taken })
 
 add-i : tie.Need-add-i Inv-loop μ-loop Inv-entries μ-entries
 add-i c = omega arith
@@ -94,7 +103,7 @@ loop-less c = omega arith
 
 loop-again : tie.Need-loop-again Inv-loop μ-loop Inv-entries μ-entries
 loop-again c =
-    compared-more (c .before .before .before .before .loop .inv) (c .before .before .before .loop-test .taken) (c .if4 .left)
+    compared-more (c .before .before .before .before .loop .inv) (c .before .before .before .loop-test .taken) (c .if3 .left)
 
 cast-t19 : tie.Need-cast-t19 Inv-loop μ-loop Inv-entries μ-entries
 cast-t19 c = omega arith
@@ -115,17 +124,18 @@ search-spec =
     μ-entries
     cast-count
     entries-holds
-    next-of-length-requires
+    next-candidate-requires
     returns
     add-next
     offset-of-requires
-    differs-16-requires
+    equal-blocks-requires
+    add-if2
     entries-less
     entries-again
     loop-holds
-    add-if4
-    shared-slice-read-if4
-    shared-slice-read-if4-2
+    add-if3
+    shared-slice-read-if3
+    shared-slice-read-if3-2
     entries-less-2
     entries-again-2
     add-i

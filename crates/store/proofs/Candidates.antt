@@ -1,0 +1,107 @@
+-- The entries that can hold a chunk: those passed on the way to the next one, and how far its bytes are the chunk's.
+use Prim.Native.Nat.{ℕ, _+_, _≤_, _<_}
+use native.Mathlib.Omega.{arith}
+use native.Mathlib.Decide.{decLt}
+use native.Mathlib.Nat.{add-zero}
+use mathlib.Core.Path.{_≡_, ap, sym, _∙_}
+use mathlib.Core.List.{List}
+use lib.ListN.{length, getD, length-drop}
+use lib.Seq.{length-take-le, getD-take, getD-drop}
+use borrow.Author.Count.{below-more}
+use Rattle.store.specs.Directory.{offsetAt, lengthAt}
+use Rattle.store.specs.Contents.{chunkAt}
+use Rattle.store.specs.Candidates.{Next, OfLength, Alike, NextCandidate, Differs, Agree}
+use Rattle.store.specs.Ready.{EntriesIn}
+
+-- an entry whose bytes lie in the pool
+module _ (pool directory : List ℕ) (i : ℕ) (inside : offsetAt directory i + lengthAt directory i ≤ length pool) where
+  pub entry-length : length (chunkAt pool directory i) ≡ lengthAt directory i
+  entry-length = length-take-le _ _ (omega (arith, length-drop (offsetAt directory i) pool))
+
+  pub entry-byte : (k : ℕ) → k < lengthAt directory i
+      → getD (chunkAt pool directory i) k 0 ≡ getD pool (offsetAt directory i + k) 0
+  entry-byte k h = rw (getD-take, getD-drop)
+
+-- on the way to the next number with a property: those from `from` on, before r, do not have it
+pub record Skipped (P : ℕ → Type 0) (from n r : ℕ) : Type 0 where
+  pub after : from ≤ r
+  pub within : r ≤ n
+  pub others : (q : ℕ) → q < r → from ≤ q → P q → ⊥
+
+-- none is passed yet
+pub skipped-none : {P : ℕ → Type 0} {from n : ℕ} → from ≤ n → Skipped P from n from
+skipped-none h = record { after = omega arith; within = h; others = λ q a b. absurd (omega arith) }
+
+module _ {P : ℕ → Type 0} {from n r : ℕ} (s : Skipped P from n r) where
+  -- r does not have it either
+  pub skips-one : r < n → (P r → ⊥) → Skipped P from n (r + 1)
+  skips-one more other =
+      record {
+        after = omega (arith, s .after);
+        within = omega arith;
+        others = below-more _ r (s .others) (λ _. other);
+      }
+
+  -- r has it
+  pub next-here : P r → Next P from n r
+  next-here p = record { after = s .after; within = s .within; others = s .others; has = λ _. p }
+
+  -- none is left
+  pub next-none : n ≤ r → Next P from n n
+  next-none h =
+      record {
+        after = omega (arith, s .after, s .within);
+        within = omega arith;
+        others = λ q a b. s .others q (omega arith) b;
+        has = λ l. absurd (omega arith);
+      }
+
+-- an entry that holds the chunk has its length and its first byte
+module _ {pool directory chunk : List ℕ} {n : ℕ} (e : EntriesIn pool directory n) where
+  holds-length : (q : ℕ) → q < n → chunkAt pool directory q ≡ chunk → lengthAt directory q ≡ length chunk
+  holds-length q h p = sym (entry-length pool directory q (e .inside q h)) ∙ ap length p
+
+  holds-first : (q : ℕ) → q < n → chunkAt pool directory q ≡ chunk
+      → getD pool (offsetAt directory q) 0 ≡ getD chunk 0 0
+  holds-first q h p =
+      sym (rw add-zero at (entry-byte pool directory q (e .inside q h) 0 (e .some q h))) ∙ ap (λ xs. getD xs 0 0) p
+
+  -- the next entry of its length is a candidate
+  pub next-long : {from r : ℕ} → Next (OfLength directory (length chunk)) from n r
+      → NextCandidate pool directory chunk from n r
+  next-long next =
+      record {
+        after = next .after;
+        within = next .within;
+        others = λ q a b p. next .others q a b (holds-length q (omega (arith, next .within)) p);
+        long = next .has;
+      }
+
+  -- so is the next of its length with its first byte
+  pub next-like : {from r : ℕ} → Next (Alike pool directory (length chunk) (getD chunk 0 0)) from n r
+      → NextCandidate pool directory chunk from n r
+  next-like next =
+      record {
+        after = next .after;
+        within = next .within;
+        others = λ q a b p.
+            let h : q < n = omega (arith, next .within) in next .others q a b (holds-length q h p, holds-first q h p);
+        long = λ h. next .has h .0;
+      }
+
+-- bytes that differ are among any more bytes
+pub differs-more : {pool chunk : List ℕ} {from m n : ℕ} → Differs pool from chunk m → m ≤ n → Differs pool from chunk n
+differs-more d h = record { index = d .index; within = omega arith; other = d .other }
+
+-- one more byte agrees
+pub agree-more : {pool chunk : List ℕ} {from a : ℕ} → (n : ℕ) → Agree pool from chunk a (a + n)
+    → getD pool (from + (a + n)) 0 ≡ getD chunk (a + n) 0 → Agree pool from chunk a (a + (n + 1))
+agree-more {pool} {chunk} {from} {a} n g e =
+    let all = below-more (λ k. a ≤ k → getD pool (from + k) 0 ≡ getD chunk k 0) (a + n) (g .each) (λ _. e) in
+    record { each = λ k h l. all k (omega arith) l }
+
+-- bytes that agree up to a and from a on
+pub agree-on : {pool chunk : List ℕ} {from a e : ℕ} → Agree pool from chunk 0 a → Agree pool from chunk a e
+    → Agree pool from chunk 0 e
+agree-on {a} f g =
+    record { each = λ k h l. elim (decLt k a) [ yes m ↦ f .each k m l | no m ↦ g .each k h (omega arith) ] }
