@@ -3,7 +3,7 @@ use Prim.Native.Nat.{ℕ, zero, suc, _+_, _-_, _*_, _%_, _^_, _≤_, _<_}
 use native.Mathlib.Omega.{arith}
 use native.Mathlib.Numerals.{add-one}
 use mathlib.Core.Path.{_≡_, sym, _∙_}
-use mathlib.Core.Bool.{_&&_}
+use mathlib.Core.Bool.{true, false, _&&_}
 use mathlib.Core.List.{List}
 use lib.Dec.{leb, ltb, eqb}
 use borrow.Author.Tests.{le-leb, lt-leb}
@@ -30,11 +30,24 @@ module _ {w : ℕ} {directory : List ℕ} {filled count from entry : ℕ}
   unfolding laidOut
   none-left h = let e : count - entry ≡ 0 = omega arith in sym (t .gives) ∙ rw e
 
-  -- else it is that of the next entry and of those after it
-  pub one-more : entry < count → laidOut w directory 0 0 filled count
-      ≡ (entryAllowed (offsetAt directory entry) (lengthAt directory entry) from (256 * w + 1)
-      && laidOut w directory (entry + 1) (from + lengthAt directory entry) filled (count - (entry + 1)))
-  unfolding laidOut
-  one-more h =
-      let e : count - entry ≡ suc (count - (entry + 1)) = omega arith in
-      sym (t .gives) ∙ rw (e, add-one entry)
+  module _ (more : entry < count) where
+    -- else it is that of the next entry and of those after it
+    one-more : laidOut w directory 0 0 filled count
+        ≡ (entryAllowed (offsetAt directory entry) (lengthAt directory entry) from (256 * w + 1)
+        && laidOut w directory (entry + 1) (from + lengthAt directory entry) filled (count - (entry + 1)))
+    unfolding laidOut
+    one-more =
+        let e : count - entry ≡ suc (count - (entry + 1)) = omega arith in
+        sym (t .gives) ∙ rw (e, add-one entry)
+
+    -- the next entry is not allowed
+    pub not-laid : entryAllowed (offsetAt directory entry) (lengthAt directory entry) from (256 * w + 1) ≡ false
+        → laidOut w directory 0 0 filled count ≡ false
+    not-laid e = rw (one-more, e)
+
+    -- the next entry is allowed
+    pub tested-more : entryAllowed (offsetAt directory entry) (lengthAt directory entry) from (256 * w + 1) ≡ true
+        → lengthAt directory entry ≤ 4294967295
+        → Tested w directory filled count (from + lengthAt directory entry) (entry + 1)
+    tested-more e l =
+        record { order = omega arith; small = omega (arith, t .small); gives = rw (one-more, e) }

@@ -1,11 +1,12 @@
 // The grounds on which a store or an admission is turned away.
 ghost use mathlib.Core.Path.{_≡_};
-ghost use Prim.Native.Nat.{_/_, _^_, _≤_, _<_};
+ghost use Prim.Native.Nat.{_+_, _*_, _/_, _^_, _≤_, _<_};
 ghost use lib.ListN.{length};
-ghost use Rattle.store.specs.Directory.{entryAllowed, laidOut, fits, storeAllowed, recipeAllowed, jobAllowed};
+ghost use Rattle.store.specs.Directory.{offsetAt, lengthAt, entryAllowed, laidOut, fits, storeAllowed, recipeAllowed, jobAllowed};
 ghost use Rattle.store.specs.Admission.{admissionGround};
 ghost use Rattle.store.specs.Looking.{storeGround};
 use crate::Head;
+use crate::memory;
 use refusal::Refusal;
 
 // Ground 3 does not hold.
@@ -57,17 +58,18 @@ fn fits(head: Head, pool: &[u8], directory: &[u32]) -> bool
 
 // An entry starts at `from`, and its length is 1 to `longest`. One less than length 0 wraps around to
 // the largest number, so that one comparison tests both bounds.
-fn entry_allowed(offset: u64, length: u64, from: u64, longest: u64) -> bool
-    ensures { λ r. ⌜ r ≡ entryAllowed offset length from longest ⌝ }
+fn entry_allowed(directory: &[u32], entry: usize, from: u64, longest: u64) -> bool
+    requires { ⌜ entry * 2 + 1 < length (now directory) ⌝ }
+    ensures { λ r. ⌜ r ≡ entryAllowed (offsetAt (now (directory .entry)) entry) (lengthAt (now (directory .entry)) entry) from longest ⌝ }
 {
-    if offset != from {
+    if memory::offset_of(directory, entry) as u64 != from {
         return false;
     }
-    std::num::wrapping_sub_u64(length, 1) < longest
+    std::num::wrapping_sub_u64(memory::length_of(directory, entry) as u64, 1) < longest
 }
 
 // Each of the first `count` entries starts where the last ended, with an allowed length, and the
-// last ends at `end`.
+// last ends at `end`. Two entries a turn, since the loop itself costs as much as an entry.
 fn laid_out(window: u32, directory: &[u32], count: usize, end: u64) -> bool
     requires { ⌜ count ≤ length (now directory) / 2 ⌝ }
     requires { ⌜ count < 2 ^ 32 ⌝ }
@@ -76,16 +78,24 @@ fn laid_out(window: u32, directory: &[u32], count: usize, end: u64) -> bool
     let longest = 256 * (window as u64) + 1;
     let mut from: u64 = 0;
     let mut entry = 0;
-    while entry < count {
-        let offset = directory[entry * 2] as u64;
-        let length = directory[entry * 2 + 1] as u64;
-        entry += 1;
-        if !entry_allowed(offset, length, from, longest) {
+    while entry + 1 < count {
+        let middle = from + memory::length_of(directory, entry) as u64;
+        if !entry_allowed(directory, entry, from, longest) {
             return false;
         }
-        from += length;
+        if !entry_allowed(directory, entry + 1, middle, longest) {
+            return false;
+        }
+        from = middle + memory::length_of(directory, entry + 1) as u64;
+        entry += 2;
     }
-    from == end
+    if entry == count {
+        return from == end;
+    }
+    if !entry_allowed(directory, entry, from, longest) {
+        return false;
+    }
+    from + memory::length_of(directory, entry) as u64 == end
 }
 
 // The first of the grounds 1, 4 and 5 that holds.

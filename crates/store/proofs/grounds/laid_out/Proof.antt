@@ -1,10 +1,11 @@
--- `store::grounds::laid_out` meets its contract: each turn tests one entry.
-use Prim.Native.Nat.{_+_, _-_, _*_}
+-- `store::grounds::laid_out` meets its contract: each turn tests two entries.
+use Prim.Native.Nat.{ℕ, _+_, _-_, _*_, _≤_}
 use native.Mathlib.Omega.{arith}
 use native.Mathlib.Nat.{sub-zero}
-use mathlib.Core.Path.{sym, _∙_}
+use mathlib.Core.Path.{_≡_, sym, _∙_}
 use borrow.Author.Tests.{not-true, not-false}
-use Rattle.store.proofs.LaidOut.{Tested, none-left, one-more}
+use Rattle.store.specs.Directory.{lengthAt}
+use Rattle.store.proofs.LaidOut.{Tested, none-left, not-laid, tested-more}
 use Rattle.store.proofs.grounds.laid_out.Statement.{statement}
 use Rattle.store.proofs.grounds.laid_out.Tie as tie
 
@@ -13,6 +14,10 @@ Inv-loop window directory count end longest from₀ entry₀ from entry = Tested
 
 abbrev μ-loop : tie.MeasureT-loop
 μ-loop window directory count end longest from₀ entry₀ from entry = count - entry
+
+-- a length is a number of 32 bits
+short : (c : tie.At-loop Inv-loop μ-loop) (i : ℕ) → lengthAt (c .before .before .args .directory .now) i ≤ 4294967295
+short c i = omega (arith, c .before .shared-slice-known .given (i * 2 + 1))
 
 mul-longest : tie.Need-mul-longest Inv-loop μ-loop
 mul-longest c = omega arith
@@ -23,70 +28,109 @@ add-longest c = omega arith
 loop-holds : tie.Need-loop-holds Inv-loop μ-loop
 loop-holds c = record { order = omega arith; small = omega arith; gives = rw sub-zero }
 
-mul-offset : tie.Need-mul-offset Inv-loop μ-loop
-mul-offset c = omega arith
+add-loop : tie.Need-add-loop Inv-loop μ-loop
+add-loop c = omega arith
 
-mul-offset-2 : tie.Need-mul-offset-2 Inv-loop μ-loop
-mul-offset-2 c = omega arith
+length-of-requires : tie.Need-length-of-requires Inv-loop μ-loop
+length-of-requires c κs = omega arith
 
-shared-slice-read-offset : tie.Need-shared-slice-read-offset Inv-loop μ-loop
-shared-slice-read-offset c = omega arith
-
-cast-offset : tie.Need-cast-offset Inv-loop μ-loop
-cast-offset c = omega (arith, c .shared-slice-known2 .given (c .before .before .loop .entry * 2))
-
-mul-length : tie.Need-mul-length Inv-loop μ-loop
-mul-length c = omega arith
-
-add-length : tie.Need-add-length Inv-loop μ-loop
-add-length c = omega arith
-
-mul-length-2 : tie.Need-mul-length-2 Inv-loop μ-loop
-mul-length-2 c = omega arith
-
-shared-slice-read-length : tie.Need-shared-slice-read-length Inv-loop μ-loop
-shared-slice-read-length c = omega arith
-
-cast-length : tie.Need-cast-length Inv-loop μ-loop
-cast-length c = omega (arith, c .shared-slice-known3 .given (c .before .before .before .loop .entry * 2 + 1))
-
-add-entry : tie.Need-add-entry Inv-loop μ-loop
-add-entry c = omega arith
+add-middle : tie.Need-add-middle Inv-loop μ-loop
+add-middle c = omega (arith, c .length-of .ensures, short (c .before .before) (c .before .before .loop .entry))
 
 entry-allowed-requires : tie.Need-entry-allowed-requires Inv-loop μ-loop
-entry-allowed-requires c κs = tt
+entry-allowed-requires c κs = omega arith
 
 returns : tie.Need-returns Inv-loop μ-loop
 returns c =
-    let inv = c .before .before .before .before .before .loop .inv in
-    rw (
-      one-more inv (c .before .before .before .before .loop-test .taken),
-      sym (c .before .entry-allowed .ensures) ∙ not-true _ (c .if1 .taken),
-    )
+    rw (not-laid (c .before .before .before .before .loop .inv) (omega arith)
+    (sym (c .before .entry-allowed .ensures) ∙ not-true _ (c .if1 .taken)))
+
+-- the first of the two is allowed
+first : (c : tie.Else1 Inv-loop μ-loop) → let at = c .before .before .before .before in let a = at .before .before .args in
+    Tested (a .window) (a .directory .now) (a .end) (a .count) (at .loop .from + c .before .before .length-of .result) (at .loop .entry + 1)
+first c =
+    let at = c .before .before .before .before in
+    rw (c .before .before .length-of .ensures)
+    (tested-more (at .loop .inv) (omega arith) (sym (c .before .entry-allowed .ensures) ∙ not-false _ (c .if1 .left))
+    (short at (at .loop .entry)))
+
+add-entry-allowed : tie.Need-add-entry-allowed Inv-loop μ-loop
+add-entry-allowed c = omega arith
+
+entry-allowed-requires-2 : tie.Need-entry-allowed-requires-2 Inv-loop μ-loop
+entry-allowed-requires-2 c κs = omega arith
+
+returns-2 : tie.Need-returns-2 Inv-loop μ-loop
+returns-2 c =
+    rw (not-laid (first (c .before .before)) (omega arith)
+    (sym (c .before .entry-allowed2 .ensures) ∙ not-true _ (c .if2 .taken)))
+
+add-length-of : tie.Need-add-length-of Inv-loop μ-loop
+add-length-of c = omega arith
+
+length-of-requires-2 : tie.Need-length-of-requires-2 Inv-loop μ-loop
+length-of-requires-2 c κs = omega arith
+
+-- both are allowed
+both : (c : tie.After-length-of2 Inv-loop μ-loop) → let one = c .before .before .before in
+    let at = one .before .before .before .before in let a = at .before .before .args in
+    Tested (a .window) (a .directory .now) (a .end) (a .count)
+    (at .loop .from + one .before .before .length-of .result + c .length-of2 .result) (at .loop .entry + 1 + 1)
+both c =
+    let one = c .before .before .before in
+    let at = one .before .before .before .before in
+    rw (c .length-of2 .ensures)
+    (tested-more (first one) (omega arith) (sym (c .before .before .entry-allowed2 .ensures) ∙ not-false _ (c .before .if2 .left))
+    (short at (at .loop .entry + 1)))
 
 add-from : tie.Need-add-from Inv-loop μ-loop
-add-from c =
-    let entry = c .before .before .before .before .before .loop .entry in
-    omega (arith, c .before .before .shared-slice-known3 .given (entry * 2 + 1))
+add-from c = omega (arith, both c .small, both c .order)
+
+add-entry : tie.Need-add-entry Inv-loop μ-loop
+add-entry c = omega arith
 
 loop-less : tie.Need-loop-less Inv-loop μ-loop
 loop-less c = omega arith
 
 loop-again : tie.Need-loop-again Inv-loop μ-loop
 loop-again c =
-    let entry = c .before .before .before .before .before .loop .entry in
-    let inv = c .before .before .before .before .before .loop .inv in
-    record {
-      order = omega arith;
-      small = omega (arith, c .before .before .shared-slice-known3 .given (entry * 2 + 1));
-      gives = rw (
-        one-more inv (c .before .before .before .before .loop-test .taken),
-        sym (c .before .entry-allowed .ensures) ∙ not-false _ (c .if1 .left),
-      );
-    }
+    let entry = c .before .before .before .before .before .before .before .loop .entry in
+    let two : entry + 1 + 1 ≡ entry + 2 = omega arith in
+    rw two at (both c)
 
-returns-2 : tie.Need-returns-2 Inv-loop μ-loop
-returns-2 c = rw (none-left (c .before .loop .inv) (c .loop-test .left))
+returns-3 : tie.Need-returns-3 Inv-loop μ-loop
+returns-3 c = rw (none-left (c .before .before .loop .inv) (omega (arith, c .if3 .taken)))
+
+-- an odd count leaves one
+last : (c : tie.Else3 Inv-loop μ-loop) → c .before .before .loop .entry + 1 ≡ c .before .before .before .before .args .count
+last c = let other = c .if3 .left in omega (arith, c .before .before .loop .inv .order, c .before .loop-test .left)
+
+entry-allowed-requires-3 : tie.Need-entry-allowed-requires-3 Inv-loop μ-loop
+entry-allowed-requires-3 c κs = omega (arith, last c)
+
+returns-4 : tie.Need-returns-4 Inv-loop μ-loop
+returns-4 c =
+    rw (not-laid (c .before .before .before .before .loop .inv) (omega (arith, last (c .before .before)))
+    (sym (c .before .entry-allowed3 .ensures) ∙ not-true _ (c .if4 .taken)))
+
+length-of-requires-3 : tie.Need-length-of-requires-3 Inv-loop μ-loop
+length-of-requires-3 c κs = omega (arith, last (c .before .before))
+
+-- it is allowed
+whole : (c : tie.After-length-of3 Inv-loop μ-loop) → let at = c .before .before .before .before .before in
+    let a = at .before .before .args in
+    Tested (a .window) (a .directory .now) (a .end) (a .count) (at .loop .from + c .length-of3 .result) (at .loop .entry + 1)
+whole c =
+    let at = c .before .before .before .before .before in
+    rw (c .length-of3 .ensures)
+    (tested-more (at .loop .inv) (omega (arith, last (c .before .before .before)))
+    (sym (c .before .before .entry-allowed3 .ensures) ∙ not-false _ (c .before .if4 .left)) (short at (at .loop .entry)))
+
+add-result : tie.Need-add-result Inv-loop μ-loop
+add-result c = omega (arith, whole c .small, whole c .order)
+
+returns-5 : tie.Need-returns-5 Inv-loop μ-loop
+returns-5 c = rw (none-left (whole c) (omega (arith, last (c .before .before .before))))
 
 pub laid-out-spec : {M : Type 1} → statement M
 laid-out-spec =
@@ -97,19 +141,23 @@ laid-out-spec =
     mul-longest
     add-longest
     loop-holds
-    mul-offset
-    mul-offset-2
-    shared-slice-read-offset
-    cast-offset
-    mul-length
-    add-length
-    mul-length-2
-    shared-slice-read-length
-    cast-length
-    add-entry
+    add-loop
+    length-of-requires
+    add-middle
     entry-allowed-requires
     returns
+    add-entry-allowed
+    entry-allowed-requires-2
+    returns-2
+    add-length-of
+    length-of-requires-2
     add-from
+    add-entry
     loop-less
     loop-again
-    returns-2)
+    returns-3
+    entry-allowed-requires-3
+    returns-4
+    length-of-requires-3
+    add-result
+    returns-5)
