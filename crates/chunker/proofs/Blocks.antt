@@ -53,25 +53,6 @@ module _ (xs : List ℕ) (a n : ℕ) where
   looked-all i m h whole =
       record { stands = h .stands; most = record { bound = λ q l r. h .most .bound q l (omega arith) } }
 
--- the search for a larger byte has come from a to i, and found none
-pub record AllSmall (xs : List ℕ) (a v i : ℕ) : Type 0 where
-  pub from : a ≤ i
-  pub small : (q : ℕ) → a ≤ q → q < i → getD xs q 0 ≤ v
-
-pub none-small : (xs : List ℕ) (a v : ℕ) → AllSmall xs a v a
-none-small xs a v = record { from = le-refl a; small = λ q l r. absurd (omega arith) }
-
-pub more-small : (xs : List ℕ) (a v i : ℕ) → AllSmall xs a v i → getD xs i 0 ≤ v → AllSmall xs a v (i + 1)
-more-small xs a v i h here =
-    record {
-      from = omega arith;
-      small = λ q l r.
-          elim (decLt q i) [
-            | yes c ↦ h .small q l c
-            | no c ↦ let same : i ≡ q = omega arith in subst (λ x. getD xs x 0 ≤ v) same here
-          ];
-    }
-
 -- m stands from i up to e, and nowhere from a up to i
 pub record Unseen (xs : List ℕ) (a e m i : ℕ) : Type 0 where
   pub from : a ≤ i

@@ -1,5 +1,5 @@
 -- A scan under way, as the loops keep it: its numbers are in order, and what is still to do gives what was asked.
-use Prim.Native.Nat.{ℕ, suc, _+_, _-_, _*_, _^_, _≤_, _<_}
+use Prim.Native.Nat.{ℕ, suc, _+_, _-_, _*_, _≤_, _<_}
 use native.Mathlib.Omega.{arith}
 use native.Mathlib.Nat.{le-refl, add-zero, mul-le-mul, mul-le-mul-right, suc-mul}
 use native.Mathlib.Decide.{decLt}

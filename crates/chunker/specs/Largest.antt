@@ -27,13 +27,6 @@ pub record FirstAt (xs : List ℕ) (a m j : ℕ) : Type 0 where
   pub is : getD xs j 0 ≡ m
   pub before : (q : ℕ) → a ≤ q → q < j → getD xs q 0 ≡ m → ⊥
 
--- j is the first index from a up to e of a byte larger than v, or e
-pub record NextLarger (xs : List ℕ) (a e v j : ℕ) : Type 0 where
-  pub from : a ≤ j
-  pub to : j ≤ e
-  pub before : (q : ℕ) → a ≤ q → q < j → getD xs q 0 ≤ v
-  pub larger : j < e → v < getD xs j 0
-
 -- the block of n bytes from a on, with its largest byte
 pub record BlockOf (xs : List ℕ) (a n : ℕ) (b : Block) : Type 0 where
   pub from : b .from ≡ a

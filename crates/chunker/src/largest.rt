@@ -2,7 +2,7 @@
 ghost use mathlib.Core.Path.{_≡_};
 ghost use Prim.Native.Nat.{_+_, _-_, _%_, min, _≤_, _<_};
 ghost use lib.ListN.{length};
-ghost use Rattle.chunker.specs.Largest.{Stands, AtMost, Largest, FirstAt, NextLarger, BlockOf, Picked};
+ghost use Rattle.chunker.specs.Largest.{Stands, Largest, FirstAt, BlockOf, Picked};
 
 // The bytes from `from` up to `to`, of which `most` is the largest.
 pub struct Block {
@@ -50,22 +50,6 @@ fn of_64(part: &[u8], from: usize) -> u8
         }
     }
     most
-}
-
-// The first index from `from` up to `to` of a byte larger than `value`, or `to` where there is none.
-pub fn next_larger(part: &[u8], from: usize, to: usize, value: u8) -> usize
-    requires { ⌜ from ≤ to ⌝ }
-    requires { ⌜ to ≤ length (now part) ⌝ }
-    ensures { λ r. ⌜ NextLarger (now (part .entry)) from to value r ⌝ }
-{
-    let mut at = from;
-    while at < to {
-        if part[at] > value {
-            return at;
-        }
-        at += 1;
-    }
-    to
 }
 
 // The block of 16 bytes from `from` on.

@@ -128,7 +128,8 @@ fn cut(window: usize, at: usize) -> Fed
     }
 }
 
-// From one larger byte to the next, up to the chunk's end, or until it cannot end in the part.
+// Byte by byte, up to the chunk's end, or until it cannot end in the part: each byte is compared
+// with the largest, and where it is not larger, the number of bytes passed with the deadline.
 fn by_bytes(run: Run, part: &[u8]) -> Run
     requires { ⌜ Going run (now part) ⌝ }
     ensures { λ r. ⌜ Reached run r (now (part .entry)) ⌝ }
@@ -139,19 +140,22 @@ fn by_bytes(run: Run, part: &[u8]) -> Run
     let mut value = run.value;
     let mut at = run.at;
     while deadline <= part.len() {
-        at = largest::next_larger(part, at, deadline, value);
-        if at == deadline {
-            return Run {
-                window,
-                base,
-                deadline,
-                value,
-                at,
-            };
-        }
-        value = part[at];
+        let byte = part[at];
         at += 1;
-        deadline = at + window;
+        if byte > value {
+            value = byte;
+            deadline = at + window;
+        } else {
+            if at == deadline {
+                return Run {
+                    window,
+                    base,
+                    deadline,
+                    value,
+                    at,
+                };
+            }
+        }
     }
     Run {
         window,

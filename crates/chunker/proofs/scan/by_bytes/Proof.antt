@@ -1,10 +1,10 @@
--- `chunker::scan::by_bytes` meets its contract: each turn goes to the next larger byte.
+-- `chunker::scan::by_bytes` meets its contract.
 use Prim.Native.Nat.{_-_}
 use native.Mathlib.Omega.{arith}
 use mathlib.Core.Path.{refl}
 use lib.ListN.{length}
 use Rattle.chunker.specs.Run.{onward}
-use Rattle.chunker.proofs.Underway.{Underway, passes-to, cuts-to, byte-rises}
+use Rattle.chunker.proofs.Underway.{Underway, byte-rises, byte-passes, byte-cuts}
 use Rattle.chunker.proofs.scan.by_bytes.Statement.{statement}
 use Rattle.chunker.proofs.scan.by_bytes.Tie as tie
 
@@ -16,27 +16,10 @@ abbrev μ-loop : tie.MeasureT-loop
 μ-loop part window base deadline₀ value₀ at₀ deadline value at = length part - at
 
 loop-holds : tie.Need-loop-holds Inv-loop μ-loop
-loop-holds c = record { order = c .before .pre; gives = refl }
+loop-holds c = record { order = c .pre; gives = refl }
 
-next-larger-requires : tie.Need-next-larger-requires Inv-loop μ-loop
-next-larger-requires c κs = omega arith
-
-returns : tie.Need-returns Inv-loop μ-loop
-returns c =
-    let next = c .before .next-larger .ensures in
-    let due = c .if1 .taken in
-    record {
-      advanced = record {
-        window = refl;
-        bound = omega arith;
-        cut = λ _. cuts-to (c .before .before .before .loop .inv) _ due (omega arith) (next .before);
-        uncut = λ h. absurd (omega arith);
-      };
-      short = λ h. absurd (omega arith);
-    }
-
-shared-slice-read-value : tie.Need-shared-slice-read-value Inv-loop μ-loop
-shared-slice-read-value c = omega arith
+shared-slice-read-byte : tie.Need-shared-slice-read-byte Inv-loop μ-loop
+shared-slice-read-byte c = omega arith
 
 add-at : tie.Need-add-at Inv-loop μ-loop
 add-at c = omega arith
@@ -49,12 +32,29 @@ loop-less c = omega arith
 
 loop-again : tie.Need-loop-again Inv-loop μ-loop
 loop-again c =
-    let next = c .before .before .next-larger .ensures in
-    let early = c .before .if1 .left in
-    let there = passes-to (c .before .before .before .before .loop .inv) (c .before .before .next-larger .result) (next .from)
-    (omega arith) (omega arith) (next .before) in
-    byte-rises there (omega arith) (next .larger (omega arith))
-    (omega (arith, c .shared-slice-known2 .given (c .before .before .next-larger .result)))
+    let at = c .before .before .before .loop .at in
+    byte-rises (c .before .before .before .loop .inv) (omega arith) (c .if1 .taken)
+    (omega (arith, c .before .shared-slice-known .given at))
+
+returns : tie.Need-returns Inv-loop μ-loop
+returns c =
+    let due = c .if2 .taken in
+    record {
+      advanced = record {
+        window = refl;
+        bound = omega arith;
+        cut = λ _. byte-cuts (c .before .before .before .before .loop .inv) (omega arith) (c .before .if1 .left) due;
+        uncut = λ h. absurd (omega arith);
+      };
+      short = λ h. absurd (omega arith);
+    }
+
+loop-less-2 : tie.Need-loop-less-2 Inv-loop μ-loop
+loop-less-2 c = omega arith
+
+loop-again-2 : tie.Need-loop-again-2 Inv-loop μ-loop
+loop-again-2 c =
+    byte-passes (c .before .before .before .before .loop .inv) (omega arith) (c .before .if1 .left) (omega arith)
 
 returns-2 : tie.Need-returns-2 Inv-loop μ-loop
 returns-2 c =
@@ -76,11 +76,12 @@ by-bytes-spec =
     Inv-loop
     μ-loop
     loop-holds
-    next-larger-requires
-    returns
-    shared-slice-read-value
+    shared-slice-read-byte
     add-at
     add-deadline
     loop-less
     loop-again
+    returns
+    loop-less-2
+    loop-again-2
     returns-2)
