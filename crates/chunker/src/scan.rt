@@ -142,10 +142,7 @@ fn by_bytes(run: Run, part: &[u8]) -> Run
     while deadline <= part.len() {
         let byte = part[at];
         at += 1;
-        if byte > value {
-            value = byte;
-            deadline = at + window;
-        } else {
+        if byte <= value {
             if at == deadline {
                 return Run {
                     window,
@@ -155,6 +152,9 @@ fn by_bytes(run: Run, part: &[u8]) -> Run
                     at,
                 };
             }
+        } else {
+            value = byte;
+            deadline = at + window;
         }
     }
     Run {

@@ -1,4 +1,4 @@
--- `chunker::scan::by_bytes` meets its contract.
+-- `chunker::scan::by_bytes` meets its contract: each turn passes one byte.
 use Prim.Native.Nat.{_-_}
 use native.Mathlib.Omega.{arith}
 use mathlib.Core.Path.{refl}
@@ -24,18 +24,6 @@ shared-slice-read-byte c = omega arith
 add-at : tie.Need-add-at Inv-loop μ-loop
 add-at c = omega arith
 
-add-deadline : tie.Need-add-deadline Inv-loop μ-loop
-add-deadline c = omega arith
-
-loop-less : tie.Need-loop-less Inv-loop μ-loop
-loop-less c = omega arith
-
-loop-again : tie.Need-loop-again Inv-loop μ-loop
-loop-again c =
-    let at = c .before .before .before .loop .at in
-    byte-rises (c .before .before .before .loop .inv) (omega arith) (c .if1 .taken)
-    (omega (arith, c .before .shared-slice-known .given at))
-
 returns : tie.Need-returns Inv-loop μ-loop
 returns c =
     let due = c .if2 .taken in
@@ -43,18 +31,30 @@ returns c =
       advanced = record {
         window = refl;
         bound = omega arith;
-        cut = λ _. byte-cuts (c .before .before .before .before .loop .inv) (omega arith) (c .before .if1 .left) due;
+        cut = λ _. byte-cuts (c .before .before .before .before .loop .inv) (omega arith) (omega arith) due;
         uncut = λ h. absurd (omega arith);
       };
       short = λ h. absurd (omega arith);
     }
+
+loop-less : tie.Need-loop-less Inv-loop μ-loop
+loop-less c = omega arith
+
+loop-again : tie.Need-loop-again Inv-loop μ-loop
+loop-again c =
+    byte-passes (c .before .before .before .before .loop .inv) (omega arith) (omega arith) (omega arith)
+
+add-deadline : tie.Need-add-deadline Inv-loop μ-loop
+add-deadline c = omega arith
 
 loop-less-2 : tie.Need-loop-less-2 Inv-loop μ-loop
 loop-less-2 c = omega arith
 
 loop-again-2 : tie.Need-loop-again-2 Inv-loop μ-loop
 loop-again-2 c =
-    byte-passes (c .before .before .before .before .loop .inv) (omega arith) (c .before .if1 .left) (omega arith)
+    let at = c .before .before .before .loop .at in
+    byte-rises (c .before .before .before .loop .inv) (omega arith) (c .if1 .left)
+    (omega (arith, c .before .shared-slice-known .given at))
 
 returns-2 : tie.Need-returns-2 Inv-loop μ-loop
 returns-2 c =
@@ -78,10 +78,10 @@ by-bytes-spec =
     loop-holds
     shared-slice-read-byte
     add-at
-    add-deadline
+    returns
     loop-less
     loop-again
-    returns
+    add-deadline
     loop-less-2
     loop-again-2
     returns-2)
