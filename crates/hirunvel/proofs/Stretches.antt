@@ -1,20 +1,20 @@
 -- The stretch that a look tells.
-use Prim.Native.Nat.{ℕ, _+_, _*_, _≤_, _<_}
+use Prim.Native.Nat.{ℕ, _+_, _≤_}
 use native.Mathlib.Omega.{arith}
 use mathlib.Core.Path.{_≡_, refl, sym}
 use mathlib.Core.Bool.{Bool, true, false, cond, true≢false}
 use mathlib.Core.List.{List}
 use lib.Dec.{ltb}
 use lib.ListN.{length, getD, take, drop}
-use borrow.Author.Tests.{ltb-true, lt-leb}
+use borrow.Author.Tests.{ltb-true}
 use Rattle.refusal.specs.Number.{accepted}
 use Rattle.refusal.specs.declared.Refusal.the-variants.{Accepted, Window, MemoryLimit, Head as HeadMisfit}
 use Rattle.refusal.specs.declared.Refusal.the-variants.{ChunkNumber as NoChunk}
 use Rattle.chunker.specs.Scanner.{windowAllowed}
 use Rattle.store.specs.declared.Head.{Head}
 use Rattle.store.specs.declared.ChunkNumber.{ChunkNumber}
-use Rattle.store.specs.Directory.{offsetAt, lengthAt, fits, storeAllowed}
-use Rattle.store.specs.Looking.{storeGround, lookGround, stretchOf, shown}
+use Rattle.store.specs.Directory.{fits, storeAllowed}
+use Rattle.store.specs.Looking.{storeGround, lookGround, shown}
 use Rattle.store.proofs.Entries.{Placed, fits-entry}
 use Rattle.hirunvel.specs.Storing.{headOf, StoreLook, storeLooked}
 
@@ -34,12 +34,6 @@ unfolding lookGround storeGround
 look-placed head pool directory number h =
     let tests = passed (windowAllowed (head .window)) (storeAllowed pool directory) (fits head pool directory) (ltb (number .0) (head .chunks .0)) h in
     fits-entry head pool directory (tests .0) (number .0) (ltb-true _ _ (tests .1))
-
--- an entry that the directory has
-pub stretch-found : (directory : List ℕ) (q : ℕ) → q * 2 + 1 < length directory
-    → stretchOf directory q ≡ record { offset = record { 0 = offsetAt directory q }; length = lengthAt directory q }
-unfolding stretchOf
-stretch-found directory q h = rw (lt-leb (length directory) (q * 2 + 1) h)
 
 -- "the answer is the piece's own stretch of the pool": what a look tells in numbers is what a look shows
 pub record OwnStretch (n pool directory : List ℕ) (number : ℕ) : Type 0 where

@@ -38,7 +38,7 @@ module _ {pool directory recipe before now : List ℕ} {at i : ℕ} (u : Underwa
         → Underway pool directory recipe before now′ (at + length chunk) (i + 1)
     one-written now′ w =
         record {
-          counted = one-counted (u .counted) chunk h e;
+          counted = one-counted (u .counted) (length chunk) h (ap length e);
           left = rw w (part-written chunk (rebuiltBytes pool directory (drop (i + 1) recipe)) (rw next at (u .left)));
         }
 

@@ -1,23 +1,29 @@
 -- Rebuilding: "The pieces that a recipe names are written to the output one after another".
-use Prim.Native.Nat.{ℕ}
+use Prim.Native.Nat.{ℕ, _+_, _*_, _≤_, _<_}
 use mathlib.Core.Path.{_≡_}
 use mathlib.Core.Bool.{Bool, true, cond, _&&_}
 use mathlib.Core.List.{List, [], _∷_, _++_, map}
 use lib.Dec.{leb, ltb}
-use lib.ListN.{length, drop}
+use lib.ListN.{length, getD, drop}
 use Rattle.refusal.specs.Number.{accepted}
 use Rattle.refusal.specs.declared.Refusal.{Refusal}
 use Rattle.refusal.specs.declared.Refusal.the-variants.{Accepted, Window, MemoryLimit, Head as HeadMisfit, ChunkNumber as NoChunk, OutputShort}
 use Rattle.chunker.specs.Scanner.{windowAllowed}
 use Rattle.chunker.specs.Splitting.{joined}
 use Rattle.store.specs.declared.Head.{Head}
-use Rattle.store.specs.Directory.{fits, storeAllowed, recipeAllowed}
+use Rattle.store.specs.Directory.{stride, offsetAt, lengthAt, fits, storeAllowed, recipeAllowed}
 use Rattle.store.specs.Contents.{chunkAt}
 use Rattle.rebuild.specs.declared.Rebuilt.{Rebuilt}
 
 -- the chunks that a recipe names, laid end to end: "an empty recipe writes nothing"
 unfoldable pub rebuiltBytes : List ℕ → List ℕ → List ℕ → List ℕ
 rebuiltBytes pool directory recipe = joined (map (chunkAt pool directory) recipe)
+
+-- each number of a recipe has an entry in the directory, and its bytes in the pool
+pub record Found (pool directory recipe : List ℕ) : Type 0 where
+  pub entered : (i : ℕ) → i < length recipe → getD recipe i 0 * stride + 1 < length directory
+  pub inside : (i : ℕ) → i < length recipe → let number = getD recipe i 0 in
+      offsetAt directory number + lengthAt directory number ≤ length pool
 
 -- "A piece number is not below pieces": ground 9 holds of no number of a recipe
 unfoldable pub allBelow : ℕ → List ℕ → Bool

@@ -2,38 +2,41 @@
 ghost use mathlib.Core.Path.{_≡_};
 ghost use Prim.Native.Nat.{_≤_};
 ghost use lib.ListN.{length};
-ghost use Rattle.rebuild.specs.Rebuilding.{rebuiltBytes, allBelow, rebuildGround};
+ghost use Rattle.rebuild.specs.Rebuilding.{rebuiltBytes, Found, allBelow, rebuildGround};
 use refusal::Refusal;
 use store::ChunkNumber;
 use store::Head;
 
-// Ground 9 holds of no number of a recipe.
+// Ground 9 holds of no number of a recipe. All are tested, so that the compiler tests several at once.
 fn all_below(chunks: ChunkNumber, recipe: &[u32]) -> bool
     ensures { λ r. ⌜ r ≡ allBelow (chunks .0) (now (recipe .entry)) ⌝ }
 {
     let count = chunks.0;
+    let mut below = true;
     let mut i = 0;
     while i < recipe.len() {
-        if count <= recipe[i] {
-            return false;
-        }
+        let number = recipe[i];
         i += 1;
+        if count <= number {
+            below = false;
+        }
     }
-    true
+    below
 }
 
 // The length of a rebuilt job, which 32 bits need not hold.
 fn rebuilt_length(pool: &[u8], directory: &[u32], recipe: &[u32]) -> u64
     requires { ⌜ length (now pool) ≤ 67108864 ⌝ }
     requires { ⌜ length (now recipe) ≤ 65535 ⌝ }
+    requires { ⌜ Found (now pool) (now directory) (now recipe) ⌝ }
     ensures { λ r. ⌜ r ≡ length (rebuiltBytes (now (pool .entry)) (now (directory .entry)) (now (recipe .entry))) ⌝ }
 {
     let mut total: u64 = 0;
     let mut i = 0;
     while i < recipe.len() {
         let number = recipe[i];
-        let chunk = store::chunk_at(pool, directory, ChunkNumber(number));
-        total += chunk.len() as u64;
+        let stretch = store::stretch_of(directory, ChunkNumber(number));
+        total += stretch.length as u64;
         i += 1;
     }
     total

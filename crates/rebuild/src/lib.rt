@@ -1,9 +1,11 @@
 // Rebuilding: a recipe's chunks back as bytes.
 ghost use mathlib.Core.Path.{_≡_};
 ghost use mathlib.Core.List.{_++_};
-ghost use Prim.Native.Nat.{_≤_};
+ghost use Prim.Native.Nat.{_+_, _*_, _≤_, _<_};
 ghost use lib.ListN.{length, drop};
-ghost use Rattle.rebuild.specs.Rebuilding.{rebuiltBytes, rebuilt};
+ghost use Rattle.store.specs.Directory.{stride, offsetAt, lengthAt};
+ghost use Rattle.store.specs.Contents.{chunkAt};
+ghost use Rattle.rebuild.specs.Rebuilding.{rebuiltBytes, Found, rebuilt};
 
 mod copying;
 mod grounds;
@@ -45,8 +47,22 @@ pub fn rebuild(
     }
 }
 
+// The chunk of a number that has an entry in the directory and its bytes in the pool.
+fn chunk_of<'p, 'd>(pool: &'p [u8], directory: &'d [u32], number: u32) -> &'p [u8]
+    requires { ⌜ number * stride + 1 < length (now directory) ⌝ }
+    requires { ⌜ offsetAt (now directory) number + lengthAt (now directory) number ≤ length (now pool) ⌝ }
+    ensures { λ r. ⌜ now r ≡ chunkAt (now (pool .entry)) (now (directory .entry)) number ⌝ }
+{
+    let stretch = store::stretch_of(directory, ChunkNumber(number));
+    let offset = stretch.offset;
+    let from = offset.0 as usize;
+    let to = from + stretch.length as usize;
+    &pool[from..to]
+}
+
 // Writes a recipe's chunks to an output that has room for them, and tells how many bytes they are.
 fn write_chunks(pool: &[u8], directory: &[u32], recipe: &[u32], output: &mut [u8]) -> usize
+    requires { ⌜ Found (now pool) (now directory) (now recipe) ⌝ }
     requires { ⌜ length (rebuiltBytes (now pool) (now directory) (now recipe)) ≤ length (now output) ⌝ }
     ensures { λ r. ⌜ r ≡ length (rebuiltBytes (now (pool .entry)) (now (directory .entry)) (now (recipe .entry))) ⌝ }
     ensures { λ r. ⌜ now (output .exit) ≡ rebuiltBytes (now (pool .entry)) (now (directory .entry)) (now (recipe .entry)) ++ drop r (now (output .entry)) ⌝ }
@@ -55,7 +71,7 @@ fn write_chunks(pool: &[u8], directory: &[u32], recipe: &[u32], output: &mut [u8
     let mut i = 0;
     while i < recipe.len() {
         let number = recipe[i];
-        let chunk = store::chunk_at(pool, directory, ChunkNumber(number));
+        let chunk = chunk_of(pool, directory, number);
         staging::copy_staged(output, at, chunk);
         at += chunk.len();
         i += 1;

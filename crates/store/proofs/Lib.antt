@@ -14,6 +14,7 @@ pub mod Lengths
 pub mod ChunkOfNumber
 pub mod LaidOut
 pub mod Copying
+pub mod Stretches
 pub mod Candidates
 pub mod Searching
 pub mod Saving

@@ -5,7 +5,7 @@ use borrow.Author.Needs.{needs}
 use borrow.Author.Tests.{not-true, not-false}
 use Rattle.refusal.specs.Number.{accepted}
 use Rattle.rebuild.specs.Rebuilding.{rebuildGround, rebuilt}
-use Rattle.rebuild.proofs.RebuildGround.{output-long}
+use Rattle.rebuild.proofs.RebuildGround.{rebuilding-found, output-long}
 use Rattle.rebuild.proofs.rebuild.Statement.{statement}
 use Rattle.rebuild.proofs.rebuild.Tie as tie
 
@@ -34,7 +34,8 @@ passed c =
     ∙ (sym (c .before .accepted .ensures) ∙ not-false _ (c .if1 .left))
 
 write-chunks-requires : tie.Need-write-chunks-requires
-write-chunks-requires c κs = output-long _ _ _ _ _ (passed (c .before))
+write-chunks-requires c κs =
+    (rebuilding-found _ _ _ _ _ (passed (c .before)), output-long _ _ _ _ _ (passed (c .before)))
 
 same-length-2 : tie.Need-same-length-2
 same-length-2 c = search needs

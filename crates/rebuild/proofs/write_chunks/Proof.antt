@@ -13,7 +13,7 @@ abbrev μ-loop : tie.MeasureT-loop
 μ-loop pool directory recipe output₀ at₀ i₀ output at i = length recipe - i
 
 loop-holds : tie.Need-loop-holds Inv-loop μ-loop
-loop-holds c = none-written (c .before .before .before .before .pre)
+loop-holds c = none-written (c .before .before .before .before .pre .1)
 
 mul-number : tie.Need-mul-number Inv-loop μ-loop
 mul-number c = omega arith
@@ -21,14 +21,17 @@ mul-number c = omega arith
 shared-slice-read-number : tie.Need-shared-slice-read-number Inv-loop μ-loop
 shared-slice-read-number c = omega arith
 
-chunk-at-requires : tie.Need-chunk-at-requires Inv-loop μ-loop
-chunk-at-requires c κs = tt
+chunk-of-requires : tie.Need-chunk-of-requires Inv-loop μ-loop
+chunk-of-requires c κs =
+    let turn = c .before .before in
+    let found = turn .before .before .before .before .before .pre .0 in
+    (found .entered (turn .loop .i) (c .before .loop-test .taken), found .inside (turn .loop .i) (c .before .loop-test .taken))
 
 -- there is room for the chunk
-fits : (c : tie.After-chunk-at Inv-loop μ-loop)
-    → c .before .before .before .loop .at + length (c .chunk-at .result .now) ≤ length (c .before .before .before .loop .output)
+fits : (c : tie.After-chunk-of Inv-loop μ-loop)
+    → c .before .before .before .loop .at + length (c .chunk-of .result .now) ≤ length (c .before .before .before .loop .output)
 fits c =
-    next-fits (c .before .before .before .loop .inv) (c .before .before .loop-test .taken) _ (c .chunk-at .ensures)
+    next-fits (c .before .before .before .loop .inv) (c .before .before .loop-test .taken) _ (c .chunk-of .ensures)
 
 copy-staged-requires : tie.Need-copy-staged-requires Inv-loop μ-loop
 copy-staged-requires c κs = fits (c .before)
@@ -46,7 +49,7 @@ loop-again : tie.Need-loop-again Inv-loop μ-loop
 loop-again c =
     let found = c .before .before .before .before in
     one-written (found .before .before .before .loop .inv) (found .before .before .loop-test .taken) _
-    (found .chunk-at .ensures) _ (c .before .before .copy-staged .ensures)
+    (found .chunk-of .ensures) _ (c .before .before .copy-staged .ensures)
 
 same-length : tie.Need-same-length Inv-loop μ-loop
 same-length c = c .before .loop .inv .left .sameLength
@@ -63,7 +66,7 @@ write-chunks-spec =
     loop-holds
     mul-number
     shared-slice-read-number
-    chunk-at-requires
+    chunk-of-requires
     copy-staged-requires
     add-at
     add-i

@@ -5,7 +5,8 @@ use borrow.Author.Needs.{needs}
 use borrow.Author.Tests.{not-true, not-false}
 use Rattle.refusal.specs.Number.{numberOf, accepted}
 use Rattle.hirunvel.specs.Storing.{storeLooked}
-use Rattle.hirunvel.proofs.Stretches.{look-placed, stretch-found}
+use Rattle.store.proofs.Stretches.{stretch-found}
+use Rattle.hirunvel.proofs.Stretches.{look-placed}
 use Rattle.hirunvel.proofs.storing.hirunvel_store_look.Statement.{statement}
 use Rattle.hirunvel.proofs.storing.hirunvel_store_look.Tie as tie
 

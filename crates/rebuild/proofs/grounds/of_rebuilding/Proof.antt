@@ -12,7 +12,7 @@ use Rattle.store.specs.Directory.{recipeAllowed}
 use Rattle.store.specs.Looking.{storeGround}
 use Rattle.chunker.proofs.Opening.{opened-ground, opened-accepted}
 use Rattle.rebuild.specs.Rebuilding.{rebuiltBytes, allBelow, rebuildGround}
-use Rattle.rebuild.proofs.RebuildGround.{window-refused, recipe-refused, store-refused, store-passed, pool-small}
+use Rattle.rebuild.proofs.RebuildGround.{window-refused, recipe-refused, store-refused, store-passed, pool-small, numbers-found}
 use Rattle.rebuild.proofs.grounds.of_rebuilding.Statement.{statement}
 use Rattle.rebuild.proofs.grounds.of_rebuilding.Tie as tie
 
@@ -84,7 +84,10 @@ returns-4 c =
 rebuilt-length-requires : tie.Need-rebuilt-length-requires
 rebuilt-length-requires c κs =
     let passed = c .before .before in
-    (pool-small _ _ _ (store-accepted passed), passed .before .before .before .if2 .left)
+    let below = sym (c .before .all-below .ensures) ∙ not-false _ (c .if4 .left) in (
+      pool-small _ _ _ (store-accepted passed),
+      (passed .before .before .before .if2 .left, numbers-found _ _ _ _ (store-accepted passed) below),
+    )
 
 returns-5 : tie.Need-returns-5
 returns-5 c =

@@ -3,6 +3,7 @@ use Prim.Native.Nat.{_+_, _-_}
 use native.Mathlib.Omega.{arith}
 use lib.ListN.{length}
 use Rattle.rebuild.proofs.Recipes.{Counted, none-counted, one-counted, counted-small, all-counted}
+use Rattle.rebuild.proofs.FoundChunks.{found-length}
 use Rattle.rebuild.proofs.grounds.rebuilt_length.Statement.{statement}
 use Rattle.rebuild.proofs.grounds.rebuilt_length.Tie as tie
 
@@ -21,22 +22,28 @@ mul-number c = omega arith
 shared-slice-read-number : tie.Need-shared-slice-read-number Inv-loop μ-loop
 shared-slice-read-number c = omega arith
 
-chunk-at-requires : tie.Need-chunk-at-requires Inv-loop μ-loop
-chunk-at-requires c κs = tt
+stretch-of-requires : tie.Need-stretch-of-requires Inv-loop μ-loop
+stretch-of-requires c κs = tt
 
 -- the bytes of one more number
-counted : (c : tie.After-chunk-at Inv-loop μ-loop)
+counted : (c : tie.After-stretch-of Inv-loop μ-loop)
     → let turn = c .before .before .before in
     let args = turn .before .before .before .before .args in
     Counted (args .pool .now) (args .directory .now) (args .recipe .now) (turn .loop .i + 1)
-    (turn .loop .total + length (c .chunk-at .result .now))
+    (turn .loop .total + c .stretch-of .result .length)
 counted c =
-    one-counted (c .before .before .before .loop .inv) _ (c .before .before .loop-test .taken) (c .chunk-at .ensures)
+    let turn = c .before .before .before in
+    let more = c .before .before .loop-test .taken in
+    one-counted (turn .loop .inv) _ more
+    (found-length (turn .before .before .before .before .pre .1 .1) (turn .loop .i) more _ (c .stretch-of .ensures))
+
+cast-total : tie.Need-cast-total Inv-loop μ-loop
+cast-total c = omega arith
 
 add-total : tie.Need-add-total Inv-loop μ-loop
 add-total c =
-    let pre = c .before .before .before .before .before .before .before .pre in
-    omega (arith, counted-small (counted c) (pre .0) (pre .1))
+    let pre = c .before .before .before .before .before .before .before .before .pre in
+    omega (arith, counted-small (counted (c .before)) (pre .0) (pre .1 .0))
 
 add-i : tie.Need-add-i Inv-loop μ-loop
 add-i c = omega arith
@@ -45,7 +52,7 @@ loop-less : tie.Need-loop-less Inv-loop μ-loop
 loop-less c = omega arith
 
 loop-again : tie.Need-loop-again Inv-loop μ-loop
-loop-again c = counted c
+loop-again c = counted (c .before)
 
 returns : tie.Need-returns Inv-loop μ-loop
 returns c = all-counted (c .before .loop .inv) (c .loop-test .left)
@@ -59,7 +66,8 @@ rebuilt-length-spec =
     loop-holds
     mul-number
     shared-slice-read-number
-    chunk-at-requires
+    stretch-of-requires
+    cast-total
     add-total
     add-i
     loop-less
