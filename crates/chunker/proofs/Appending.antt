@@ -1,10 +1,10 @@
 -- Laws of what bytes do to a scanner when they come in two parts, one after the other.
-use Prim.Native.Nat.{ℕ, suc, _+_}
-use mathlib.Core.Path.{_≡_, refl, ap, _∙_}
+use Prim.Native.Nat.{ℕ}
+use mathlib.Core.Path.{_≡_, refl, _∙_}
 use mathlib.Core.List.{List, [], _∷_, _++_, append-assoc}
 use Rattle.chunker.specs.declared.Scanner.{Scanner}
 use Rattle.chunker.specs.Move.{Move, Rise, Hold, Cut, move, moved, next}
-use Rattle.chunker.specs.Chunks.{kept, ended, after, cutChunks, remaining}
+use Rattle.chunker.specs.Chunks.{kept, after, cutChunks, remaining}
 
 pub after-append : (s : Scanner) (x y : List ℕ) → after s (x ++ y) ≡ after (after s x) y
 unfolding after

@@ -6,8 +6,7 @@ use mathlib.Core.Bool.{Bool, true, false, _||_}
 use lib.Dec.{leb, ltb, eqb}
 use borrow.Author.Tests.{ltb-true, ltb-false, leb-true, leb-false, eqb-true, eqb-false, lt-ltb, le-ltb, le-leb, lt-leb, eq-eqb, ne-eqb}
 use Rattle.chunker.specs.declared.Scanner.{Scanner}
-use Rattle.chunker.specs.Move.{Move, Rise, Hold, Cut, pick, move, moved, next, rise, hold}
-use Rattle.chunker.specs.Scanner.{fresh}
+use Rattle.chunker.specs.Move.{Move, Rise, Hold, Cut, pick, move, moved, next}
 
 -- what is known of a scanner and a byte by which it makes a move
 pub data Moved (s : Scanner) (b : ℕ) : Move → Type 0 where

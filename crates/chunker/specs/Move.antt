@@ -1,7 +1,6 @@
 -- What one byte does to a scanner.
 use Prim.Native.Nat.{ℕ, suc, _+_}
 use mathlib.Core.Bool.{Bool, true, false, _||_}
-use mathlib.Core.List.{List, []}
 use lib.Dec.{leb, ltb, eqb}
 use Rattle.chunker.specs.declared.Scanner.{Scanner}
 use Rattle.chunker.specs.Scanner.{fresh}

@@ -1,6 +1,6 @@
 // The grounds on which a scanner is turned away.
 ghost use mathlib.Core.Path.{_≡_};
-ghost use Rattle.chunker.specs.Scanner.{windowAllowed, untouched, consistent, sound, groundOf};
+ghost use Rattle.chunker.specs.Scanner.{windowAllowed, untouched, consistent, groundOf};
 use crate::Scanner;
 use refusal::Refusal;
 

@@ -12,7 +12,7 @@ use Rattle.chunker.specs.declared.Finished.{Finished}
 use Rattle.chunker.specs.Scanner.{windowAllowed, groundOf}
 use Rattle.chunker.specs.Answers.{fed, finished}
 use Rattle.chunker.proofs.Soundness.{fed-refused, fed-ground}
-use Rattle.hirunvel.specs.Scanning.{numbersOf, scannerOf, noByteGround, scannerGround, told, ScannerFeeding, scannerFed, ScannerFinishing, scannerFinished}
+use Rattle.hirunvel.specs.Scanning.{numbersOf, scannerOf, noByteGround, scannerGround, told, scannerFed, scannerFinished}
 
 -- a value that is no byte is refused
 no-byte-refused : (w : ℕ) → accepted (noByteGround w) ≡ false

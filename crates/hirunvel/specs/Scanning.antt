@@ -8,9 +8,7 @@ use Rattle.refusal.specs.Number.{numberOf, accepted}
 use Rattle.refusal.specs.declared.Refusal.{Refusal}
 use Rattle.refusal.specs.declared.Refusal.the-variants.{Window, Unsound}
 use Rattle.chunker.specs.declared.Scanner.{Scanner}
-use Rattle.chunker.specs.declared.Opened.{Opened}
 use Rattle.chunker.specs.declared.Fed.{Fed}
-use Rattle.chunker.specs.declared.Finished.{Finished}
 use Rattle.chunker.specs.Scanner.{windowAllowed, groundOf}
 use Rattle.chunker.specs.Answers.{opened, fed, finished}
 

@@ -6,9 +6,7 @@ use lib.IntN.{ℤ}
 use lib.ListN.{getD}
 use Rattle.refusal.specs.Number.{numberOf, accepted}
 use Rattle.store.specs.declared.Head.{Head}
-use Rattle.store.specs.declared.Opened.{Opened}
 use Rattle.store.specs.declared.Admitted.{Admitted}
-use Rattle.store.specs.declared.ChunkNumber.{ChunkNumber}
 use Rattle.store.specs.Directory.{offsetAt, lengthAt}
 use Rattle.store.specs.Admission.{opened, admitted}
 use Rattle.store.specs.Looking.{lookGround}

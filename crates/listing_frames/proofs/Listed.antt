@@ -22,7 +22,7 @@ use Rattle.store.specs.History.{recipeOf}
 use Rattle.store.proofs.Growth.{grown}
 use Rattle.store.proofs.Admissions.{adds}
 use Rattle.store.proofs.History.{start-fits}
-use Rattle.listing_frames.specs.Frames.{frame, chunkFrames, lastFrame, refusedFrame, outcome, admittedFrames, listing}
+use Rattle.listing_frames.specs.Frames.{chunkFrames, lastFrame, refusedFrame, outcome, admittedFrames, listing}
 use Rattle.listing_frames.specs.Counted.{countedFrames}
 use Rattle.listing_frames.proofs.Stores.{sets-then}
 use Rattle.listing_frames.proofs.Walking.{frame-length, counted-length}

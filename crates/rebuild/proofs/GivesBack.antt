@@ -5,7 +5,7 @@ use mathlib.Core.Path.{_≡_, refl, ap₂, sym, _∙_}
 use mathlib.Core.Bool.{true}
 use mathlib.Core.List.{List, [], _∷_, _++_, map}
 use borrow.Author.Tests.{leb-true, le-leb, lt-ltb}
-use lib.ListN.{length, drop, length-take}
+use lib.ListN.{length, length-take}
 use Rattle.refusal.specs.Number.{accepted}
 use Rattle.refusal.specs.declared.Refusal.the-variants.{Accepted}
 use Rattle.chunker.specs.Splitting.{joined}
@@ -20,7 +20,7 @@ use Rattle.store.proofs.Growth.{Among, among-each}
 use Rattle.store.proofs.ChunkOfNumber.{number-counted, chunk-of-number}
 use Rattle.store.proofs.History.{adds-at, recipe-stays, chunks-stay, start-fits, standing}
 use Rattle.store.proofs.Lengths.{as-long, within-limits, store-allowed-alike, lengths-stay}
-use Rattle.rebuild.specs.Rebuilding.{Rebuilding, rebuiltBytes, allBelow, rebuildGround, rebuilt, GivesBack}
+use Rattle.rebuild.specs.Rebuilding.{rebuiltBytes, allBelow, rebuildGround, rebuilt, GivesBack}
 use Rattle.rebuild.proofs.RebuildGround.{all-pass}
 
 module _ (pool directory : List ℕ) (n : ℕ) where

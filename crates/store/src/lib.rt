@@ -1,7 +1,6 @@
 // The store: a head, a lent pool of chunk bytes and a lent directory of their places.
 ghost use mathlib.Core.Path.{_≡_};
 ghost use Rattle.store.specs.Admission.{opened, admitted};
-ghost use Rattle.store.specs.Contents.{chunkAt};
 ghost use Rattle.store.specs.Looking.{storeGround, lookGround, stretchOf, shown};
 
 mod admission;
@@ -159,26 +158,9 @@ pub fn look<'p, 'd>(
     if !refusal::accepted(ground) {
         return &pool[0..0];
     }
-    chunk_at(pool, directory, number)
-}
-
-// The stretch of the pool that a number's entry gives, for a caller that has tested the grounds. It
-// is cut off at the pool's end, and empty where the directory has no such entry.
-pub fn chunk_at<'p, 'd>(pool: &'p [u8], directory: &'d [u32], number: ChunkNumber) -> &'p [u8]
-    ensures { λ r. ⌜ now r ≡ chunkAt (now (pool .entry)) (now (directory .entry)) (number .0) ⌝ }
-{
-    let entry = number.0 as usize;
-    if directory.len() <= entry * 2 + 1 {
-        return &pool[0..0];
-    }
-    let from = memory::offset_of(directory, entry);
-    if pool.len() < from {
-        return &pool[0..0];
-    }
-    let size = memory::length_of(directory, entry);
-    if pool.len() - from < size {
-        return &pool[from..];
-    }
-    let to = from + size;
+    let stretch = stretch_of(directory, number);
+    let offset = stretch.offset;
+    let from = offset.0 as usize;
+    let to = from + stretch.length as usize;
     &pool[from..to]
 }

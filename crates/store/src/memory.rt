@@ -1,7 +1,7 @@
 // Reading and writing pool and directory.
 ghost use mathlib.Core.Path.{_≡_};
 ghost use mathlib.Core.Bool.{true, false};
-ghost use Prim.Native.Nat.{ℕ, _+_, _*_, _≤_, _<_};
+ghost use Prim.Native.Nat.{_+_, _*_, _≤_, _<_};
 ghost use lib.ListN.{length, set};
 ghost use Rattle.store.specs.Directory.{offsetAt, lengthAt};
 ghost use Rattle.store.specs.Contents.{contents, number};

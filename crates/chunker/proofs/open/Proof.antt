@@ -1,5 +1,5 @@
 -- `chunker::open` meets its contract.
-use mathlib.Core.Path.{_≡_, sym, _∙_}
+use mathlib.Core.Path.{sym, _∙_}
 use Rattle.chunker.specs.Answers.{opened}
 use borrow.Author.Needs.{needs}
 use Rattle.chunker.proofs.open.Statement.{statement}

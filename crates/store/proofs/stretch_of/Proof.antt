@@ -1,5 +1,4 @@
 -- `store::stretch_of` meets its contract, whatever the directory holds.
-use mathlib.Core.Path.{_≡_}
 use borrow.Author.Needs.{needs}
 use borrow.Author.Tests.{le-leb, lt-leb}
 use Rattle.store.specs.Looking.{stretchOf}

@@ -1,5 +1,5 @@
 -- `chunker::ground::of` meets its contract.
-use mathlib.Core.Path.{_≡_, sym, _∙_}
+use mathlib.Core.Path.{sym, _∙_}
 use borrow.Author.Tests.{not-true, not-false}
 use Rattle.chunker.specs.Scanner.{sound, groundOf}
 use borrow.Author.Needs.{needs}

@@ -1,5 +1,5 @@
 -- `hirunvel::scanning::hirunvel_scanner_finish` meets its contract.
-use mathlib.Core.Path.{_≡_, refl, sym, ap, _∙_}
+use mathlib.Core.Path.{refl, sym, ap, _∙_}
 use borrow.Author.Needs.{needs}
 use borrow.Author.Tests.{not-true, not-false}
 use Rattle.chunker.specs.Answers.{finished}

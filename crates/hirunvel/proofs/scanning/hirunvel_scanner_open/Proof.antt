@@ -1,5 +1,5 @@
 -- `hirunvel::scanning::hirunvel_scanner_open` meets its contract.
-use mathlib.Core.Path.{_≡_, ap, _∙_}
+use mathlib.Core.Path.{ap, _∙_}
 use borrow.Author.Needs.{needs}
 use Rattle.refusal.specs.Number.{numberOf}
 use Rattle.hirunvel.specs.Scanning.{numbersOf, scannerOpened}

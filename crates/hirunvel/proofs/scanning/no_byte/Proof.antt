@@ -1,5 +1,5 @@
 -- `hirunvel::scanning::no_byte` meets its contract.
-use mathlib.Core.Path.{_≡_, sym, ap, _∙_}
+use mathlib.Core.Path.{sym, ap, _∙_}
 use borrow.Author.Needs.{needs}
 use Rattle.refusal.specs.Number.{numberOf}
 use Rattle.chunker.proofs.Opening.{opened-ground, opened-accepted}

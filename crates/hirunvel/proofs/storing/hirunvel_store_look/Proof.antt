@@ -1,12 +1,11 @@
 -- `hirunvel::storing::hirunvel_store_look` meets its contract.
-use mathlib.Core.Path.{_≡_, refl, sym, ap, _∙_}
+use mathlib.Core.Path.{refl, sym, ap, _∙_}
 use mathlib.Core.List.{[], _∷_}
 use borrow.Author.Needs.{needs}
 use borrow.Author.Tests.{not-true, not-false}
 use Rattle.refusal.specs.Number.{numberOf, accepted}
 use Rattle.hirunvel.specs.Storing.{storeLooked}
-use Rattle.store.proofs.Stretches.{stretch-found}
-use Rattle.hirunvel.proofs.Stretches.{look-placed}
+use Rattle.store.proofs.Stretches.{look-placed, stretch-found}
 use Rattle.hirunvel.proofs.storing.hirunvel_store_look.Statement.{statement}
 use Rattle.hirunvel.proofs.storing.hirunvel_store_look.Tie as tie
 
