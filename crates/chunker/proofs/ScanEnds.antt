@@ -24,10 +24,6 @@ advanced-on on =
       uncut = λ _. on;
     }
 
--- nor is one that stays
-pub advanced-none : (r : Run) (part : List ℕ) → Going r part → Advanced r r part
-advanced-none r part going = advanced-on (record { window = refl; going = going; gives = refl })
-
 -- from the run b on: at its end already, or from the run r that is further on
 module _ {part : List ℕ} {b r : Run} (advanced : Advanced b r part) where
   pub reached-already : r .deadline ≤ r .at → Reached b r part

@@ -6,7 +6,7 @@ ghost use mathlib.Core.Bool.{true, false};
 ghost use Rattle.refusal.specs.declared.Refusal.the-variants.{Accepted};
 ghost use Rattle.chunker.specs.Scanner.{windowAllowed, fresh, groundOf};
 ghost use Rattle.chunker.specs.Answers.{scan, consumed};
-ghost use Rattle.chunker.specs.Run.{standing, Going, rest, Begun, Passed, Advanced, Reached};
+ghost use Rattle.chunker.specs.Run.{standing, Going, rest, Further, Begun, Passed, Advanced, Reached};
 use crate::Fed;
 use crate::Scanner;
 use crate::fresh;
@@ -40,7 +40,9 @@ pub fn scan(scanner: Scanner, part: &[u8]) -> Fed
         };
     }
     let mut run = begun(scanner, part);
-    if 16 <= run.window {
+    if run.window < 16 {
+        run = past_one(run, part);
+    } else {
         run = by_blocks(run, part);
     }
     if run.at < run.deadline {
@@ -58,7 +60,7 @@ pub fn first_chunk(window: u32, job: &[u8]) -> usize
     requires { ⌜ 1 ≤ length (now job) ⌝ }
     ensures { λ r. ⌜ r ≡ scan (fresh window) 0 (now (job .entry)) .consumed ⌝ }
 {
-    let run = by_bytes(begun(fresh(window), job), job);
+    let run = by_bytes(past_one(begun(fresh(window), job), job), job);
     if run.at < run.deadline {
         return job.len();
     }
@@ -126,6 +128,29 @@ fn cut(window: usize, at: usize) -> Fed
         consumed: at,
         cut: true,
     }
+}
+
+// Passes one byte, unless the chunk can end with it. The second byte of a chunk is larger than the first
+// as often as not, and a branch on it cannot be foretold: here the compiler selects and does not branch.
+fn past_one(run: Run, part: &[u8]) -> Run
+    requires { ⌜ Going run (now part) ⌝ }
+    ensures { λ r. ⌜ Further run r (now (part .entry)) ⌝ }
+{
+    let at = run.at;
+    let next = at + 1;
+    if part.len() <= at {
+        return run;
+    }
+    if run.deadline <= next {
+        return run;
+    }
+    let mut past = run;
+    past.at = next;
+    if part[at] > run.value {
+        past.value = part[at];
+        past.deadline = next + run.window;
+    }
+    past
 }
 
 // Byte by byte, up to the chunk's end, or until it cannot end in the part: each byte is compared

@@ -5,7 +5,7 @@ use mathlib.Core.Logic.{⊎-elim}
 use borrow.Author.Needs.{needs}
 use Rattle.chunker.specs.Run.{Advanced, Reached}
 use Rattle.chunker.proofs.Scanning.{stays}
-use Rattle.chunker.proofs.ScanEnds.{advanced-none, reached-already, reached-then, small-window, ends-chunk, leaves-rest}
+use Rattle.chunker.proofs.ScanEnds.{advanced-on, reached-already, reached-then, small-window, ends-chunk, leaves-rest}
 use Rattle.chunker.proofs.scan.scan.Statement.{statement}
 use Rattle.chunker.proofs.scan.scan.Tie as tie
 
@@ -15,15 +15,17 @@ returns c = stays _ 0 _ (c .if1 .taken)
 begun-requires : tie.Need-begun-requires
 begun-requires c κs = search needs
 
+past-one-requires : tie.Need-past-one-requires
+past-one-requires c κs = c .before .before .begun .ensures .going
+
 by-blocks-requires : tie.Need-by-blocks-requires
 by-blocks-requires c κs = search needs
 
--- the run after the blocks, if any
+-- the run after one byte, or after the blocks
 advanced : (c : tie.Joined2) →
     Advanced (c .before .before .begun .result) (c .if2 .run) (c .before .before .before .before .before .args .part .now)
 advanced c =
-    ⊎-elim (λ blocks. rw (blocks .2) (blocks .1 .ensures))
-    (λ none. rw (none .1) (advanced-none _ _ (c .before .before .begun .ensures .going))) (c .if2 .came)
+    ⊎-elim (λ one. rw (one .2) (advanced-on (one .1 .ensures))) (λ blocks. rw (blocks .2) (blocks .1 .ensures)) (c .if2 .came)
 
 -- the run after the bytes, if any
 reached : (c : tie.Joined3) →
@@ -56,6 +58,7 @@ scan-spec =
     (tie.spec
     returns
     begun-requires
+    past-one-requires
     by-blocks-requires
     by-bytes-requires
     to-end-requires
