@@ -25,6 +25,6 @@ bench:
 	@for crate in hirunvel chunk_count; do rt staticlib $$crate >target/bench/staticlib.log 2>&1 \
 		|| { cat target/bench/staticlib.log; exit 1; }; done
 	@python3 bench/inputs.py target/bench
-	@rustc --edition 2021 -O -C llvm-args=-x86-branches-within-32B-boundaries -L native=target/staticlib \
+	@rustc --edition 2021 -O -L native=target/staticlib \
 		-o target/bench/bench bench/main.rs
 	@target/bench/bench target/bench
