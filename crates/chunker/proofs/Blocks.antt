@@ -6,7 +6,8 @@ use native.Mathlib.Decide.{decLt}
 use mathlib.Core.Path.{_≡_, refl, subst}
 use mathlib.Core.List.{List}
 use lib.ListN.{length, getD}
-use Rattle.chunker.specs.Largest.{Stands, AtMost, Largest, FirstAt}
+use Rattle.chunker.specs.declared.largest.Block.{Block}
+use Rattle.chunker.specs.Largest.{Stands, AtMost, Largest, FirstAt, BlockOf, Picked}
 
 -- m is the largest of the first i bytes of the n from a on, and stands among the n
 pub record Looked (xs : List ℕ) (a n i m : ℕ) : Type 0 where
@@ -126,3 +127,16 @@ module _ (xs : List ℕ) (a m i : ℕ) (h : Searching xs a m i) where
         unseen = unseen-to xs a (h .end) m i (i + 16) (h .unseen) (omega arith)
             (λ q b c e. omega (arith, l .most .bound q b c));
       }
+
+-- the next 16 bytes are a block that may be picked
+pub picked-next : {xs : List ℕ} {i : ℕ} {b : Block} → BlockOf xs i 16 b → Picked xs i (i + 16) b
+picked-next {b} block =
+    let size : b .to - b .from ≡ 16 = omega (arith, block .from, block .to) in
+    record {
+      from = omega (arith, block .from);
+      back = omega (arith, block .from);
+      on = omega (arith, block .to);
+      within = omega (arith, block .to);
+      whole = rw size;
+      largest = block .largest;
+    }

@@ -53,7 +53,7 @@ fn of_64(part: &[u8], from: usize) -> u8
 }
 
 // The block of 16 bytes from `from` on.
-fn block_16(part: &[u8], from: usize) -> Block
+pub fn block_16(part: &[u8], from: usize) -> Block
     requires { ⌜ from + 16 ≤ length (now part) ⌝ }
     ensures { λ r. ⌜ BlockOf (now (part .entry)) from 16 r ⌝ }
 {
