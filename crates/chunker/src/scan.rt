@@ -298,11 +298,11 @@ fn by_small_blocks(run: Run, part: &[u8]) -> Run
 {
     let mut run = run;
     while run.at + 16 <= largest::lesser(run.deadline, part.len()) {
-        let block = largest::block_16(part, run.at);
-        run.at = block.to;
-        if block.most > run.value {
-            run.value = block.most;
-            run.deadline = largest::first_of(part, block) + 1 + run.window;
+        let small = largest::block_16(part, run.at);
+        run.at = small.to;
+        if small.most > run.value {
+            run.value = small.most;
+            run.deadline = largest::first_of(part, small) + 1 + run.window;
         } else {
             if run.at == run.deadline {
                 return run;

@@ -1,5 +1,5 @@
 -- The entries that can hold a chunk: those passed on the way to the next one, and how far its bytes are the chunk's.
-use Prim.Native.Nat.{ℕ, _+_, _≤_, _<_}
+use Prim.Native.Nat.{ℕ, _+_, _*_, _≤_, _<_}
 use native.Mathlib.Omega.{arith}
 use native.Mathlib.Decide.{decLt}
 use native.Mathlib.Nat.{add-zero}
@@ -10,7 +10,7 @@ use lib.Seq.{length-take-le, getD-take, getD-drop}
 use borrow.Author.Count.{below-more}
 use Rattle.store.specs.Directory.{offsetAt, lengthAt}
 use Rattle.store.specs.Contents.{chunkAt}
-use Rattle.store.specs.Candidates.{Next, OfLength, Alike, NextCandidate, Differs, Agree}
+use Rattle.store.specs.Candidates.{Next, OfLength, OfKey, NextCandidate, Differs, Agree}
 use Rattle.store.specs.Ready.{EntriesIn}
 
 -- an entry whose bytes lie in the pool
@@ -34,17 +34,35 @@ skipped-none h = record { after = omega arith; within = h; others = λ q a b. ab
 
 module _ {P : ℕ → Type 0} {from n r : ℕ} (s : Skipped P from n r) where
   -- r does not have it either
-  pub skips-one : r < n → (P r → ⊥) → Skipped P from n (r + 1)
-  skips-one more other =
+  pub skips-one : (t : ℕ) → t ≡ r + 1 → r < n → (P r → ⊥) → Skipped P from n t
+  skips-one t e more other =
+      let all = below-more (λ k. from ≤ k → P k → ⊥) r (s .others) (λ _. other) in
       record {
         after = omega (arith, s .after);
         within = omega arith;
-        others = below-more _ r (s .others) (λ _. other);
+        others = λ k l h. all k (omega arith) h;
       }
 
   -- r has it
   pub next-here : P r → Next P from n r
   next-here p = record { after = s .after; within = s .within; others = s .others; has = λ _. p }
+
+  -- those up to a further number do not have it, so that the next from r on is the next from `from` on
+  others-on : {m q : ℕ} → Next P r m q → (k : ℕ) → k < q → from ≤ k → P k → ⊥
+  others-on next k l h p =
+      elim (decLt k r) [ yes c ↦ s .others k c h p | no c ↦ next .others k l (omega arith) p ]
+
+  pub skips-on : {m q : ℕ} → Next P r m q → m ≤ n → Skipped P from n q
+  skips-on next h =
+      record { after = omega (arith, s .after, next .after); within = omega (arith, next .within); others = others-on next }
+
+  pub next-among : {m q : ℕ} → Next P r m q → m ≤ n → q < m → Next P from n q
+  next-among next h here =
+      record { after = omega (arith, s .after, next .after); within = omega arith; others = others-on next; has = λ _. next .has here }
+
+  pub next-on : {q : ℕ} → Next P r n q → Next P from n q
+  next-on next =
+      record { after = omega (arith, s .after, next .after); within = next .within; others = others-on next; has = next .has }
 
   -- none is left
   pub next-none : n ≤ r → Next P from n n
@@ -77,16 +95,17 @@ module _ {pool directory chunk : List ℕ} {n : ℕ} (e : EntriesIn pool directo
         long = next .has;
       }
 
-  -- so is the next of its length with its first byte
-  pub next-like : {from r : ℕ} → Next (Alike pool directory (length chunk) (getD chunk 0 0)) from n r
-      → NextCandidate pool directory chunk from n r
-  next-like next =
+  -- so is the next with its key, which no other length and first byte have
+  pub next-like : {from r : ℕ} → ((q : ℕ) → getD pool q 0 < 256) → getD chunk 0 0 < 256
+      → Next (OfKey pool directory (length chunk * 256 + getD chunk 0 0)) from n r → NextCandidate pool directory chunk from n r
+  next-like {r} bytes byte next =
       record {
         after = next .after;
         within = next .within;
         others = λ q a b p.
-            let h : q < n = omega (arith, next .within) in next .others q a b (holds-length q h p, holds-first q h p);
-        long = λ h. next .has h .0;
+            let h : q < n = omega (arith, next .within) in
+            next .others q a b (omega (arith, holds-length q h p, holds-first q h p));
+        long = λ h. omega (arith, next .has h, bytes (offsetAt directory r));
       }
 
 -- bytes that differ are among any more bytes

@@ -1,5 +1,5 @@
 -- The entries that can hold a chunk, and how far their bytes are the chunk's.
-use Prim.Native.Nat.{ℕ, _+_, _≤_, _<_}
+use Prim.Native.Nat.{ℕ, _+_, _*_, _≤_, _<_}
 use mathlib.Core.Path.{_≡_}
 use mathlib.Core.List.{List}
 use lib.ListN.{length, getD}
@@ -17,9 +17,13 @@ pub record Next (P : ℕ → Type 0) (from n r : ℕ) : Type 0 where
 abbrev pub OfLength : List ℕ → ℕ → ℕ → Type 0
 OfLength directory size i = lengthAt directory i ≡ size
 
--- entry i has a length and a first byte
-abbrev pub Alike : List ℕ → List ℕ → ℕ → ℕ → ℕ → Type 0
-Alike pool directory size first i = (lengthAt directory i ≡ size) × (getD pool (offsetAt directory i) 0 ≡ first)
+-- the key of entry i: its length and its first byte as one number
+abbrev pub keyAt : List ℕ → List ℕ → ℕ → ℕ
+keyAt pool directory i = lengthAt directory i * 256 + getD pool (offsetAt directory i) 0
+
+-- entry i has a key
+abbrev pub OfKey : List ℕ → List ℕ → ℕ → ℕ → Type 0
+OfKey pool directory key i = keyAt pool directory i ≡ key
 
 -- no entry from `from` on, before entry r, holds the chunk, and entry r has its length, or is n
 pub record NextCandidate (pool directory chunk : List ℕ) (from n r : ℕ) : Type 0 where

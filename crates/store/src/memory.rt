@@ -5,7 +5,7 @@ ghost use Prim.Native.Nat.{_+_, _*_, _≤_, _<_};
 ghost use lib.ListN.{length, set};
 ghost use Rattle.store.specs.Directory.{offsetAt, lengthAt};
 ghost use Rattle.store.specs.Contents.{contents, number};
-ghost use Rattle.store.specs.Candidates.{Next, OfLength, Alike, NextCandidate, Differs, Agree, EqualBlocks};
+ghost use Rattle.store.specs.Candidates.{Next, OfLength, keyAt, OfKey, NextCandidate, Differs, Agree, EqualBlocks};
 ghost use Rattle.store.specs.Filling.{written};
 ghost use Rattle.store.specs.Ready.{EntriesIn};
 use crate::ChunkNumber;
@@ -27,11 +27,24 @@ pub fn length_of(directory: &[u32], entry: usize) -> usize
     directory[entry * 2 + 1] as usize
 }
 
-// A length and a first byte as one number, so that one comparison tests both.
-fn key(length: u32, first: u8) -> u64
-    ensures { λ r. ⌜ r ≡ length * 256 + first ⌝ }
+// How many of the four entries from `entry` on come before the first that has `size` bytes.
+fn before_length(directory: &[u32], entry: usize, size: usize) -> usize
+    requires { ⌜ (entry + 4) * 2 ≤ length (now directory) ⌝ }
+    ensures { λ r. ⌜ Next (OfLength (now (directory .entry)) size) entry (entry + 4) (entry + r) ⌝ }
 {
-    length as u64 * 256 + first as u64
+    if length_of(directory, entry) == size {
+        return 0;
+    }
+    if length_of(directory, entry + 1) == size {
+        return 1;
+    }
+    if length_of(directory, entry + 2) == size {
+        return 2;
+    }
+    if length_of(directory, entry + 3) == size {
+        return 3;
+    }
+    4
 }
 
 // The first entry from `from` on, before entry `count`, that has `size` bytes; `count` where there is
@@ -51,28 +64,54 @@ fn next_of_length(directory: &[u32], from: usize, count: usize, size: usize) -> 
     count
 }
 
-// The same with a first byte besides.
-fn next_alike(
-    pool: &[u8],
-    directory: &[u32],
-    from: usize,
-    count: usize,
-    size: u32,
-    first: u8,
-) -> usize
+// The same, four entries a turn, since the loop itself costs as much as an entry.
+fn next_of_length_by_fours(directory: &[u32], from: usize, count: usize, size: usize) -> usize
     requires { ⌜ from ≤ count ⌝ }
-    requires { ⌜ EntriesIn (now pool) (now directory) count ⌝ }
-    ensures { λ r. ⌜ Next (Alike (now (pool .entry)) (now (directory .entry)) size first) from count r ⌝ }
+    requires { ⌜ count * 2 ≤ length (now directory) ⌝ }
+    ensures { λ r. ⌜ Next (OfLength (now (directory .entry)) size) from count r ⌝ }
 {
-    let wanted = key(size, first);
     let mut entry = from;
-    while entry < count {
-        let offset = directory[entry * 2];
-        let length = directory[entry * 2 + 1];
-        if key(length, pool[offset as usize]) == wanted {
+    while entry + 4 <= count {
+        let others = before_length(directory, entry, size);
+        entry += others;
+        if others < 4 {
             return entry;
         }
-        entry += 1;
+    }
+    next_of_length(directory, entry, count, size)
+}
+
+// An entry's length and first byte as one number, so that one comparison tests both.
+fn key_of(pool: &[u8], directory: &[u32], entry: usize) -> u64
+    requires { ⌜ entry * 2 + 1 < length (now directory) ⌝ }
+    requires { ⌜ offsetAt (now directory) entry < length (now pool) ⌝ }
+    ensures { λ r. ⌜ r ≡ keyAt (now (pool .entry)) (now (directory .entry)) entry ⌝ }
+{
+    let first = pool[offset_of(directory, entry)];
+    length_of(directory, entry) as u64 * 256 + first as u64
+}
+
+// The first entry from `from` on, before entry `count`, with a key; `count` where there is none. Two
+// entries a turn.
+fn next_of_key(pool: &[u8], directory: &[u32], from: usize, count: usize, key: u64) -> usize
+    requires { ⌜ from ≤ count ⌝ }
+    requires { ⌜ EntriesIn (now pool) (now directory) count ⌝ }
+    ensures { λ r. ⌜ Next (OfKey (now (pool .entry)) (now (directory .entry)) key) from count r ⌝ }
+{
+    let mut entry = from;
+    while entry + 2 <= count {
+        if key_of(pool, directory, entry) == key {
+            return entry;
+        }
+        if key_of(pool, directory, entry + 1) == key {
+            return entry + 1;
+        }
+        entry += 2;
+    }
+    if entry < count {
+        if key_of(pool, directory, entry) == key {
+            return entry;
+        }
     }
     count
 }
@@ -86,9 +125,10 @@ fn next_candidate(pool: &[u8], directory: &[u32], from: usize, count: usize, chu
     ensures { λ r. ⌜ NextCandidate (now (pool .entry)) (now (directory .entry)) (now (chunk .entry)) from count r ⌝ }
 {
     if chunk.len() < 16 {
-        return next_alike(pool, directory, from, count, chunk.len() as u32, chunk[0]);
+        let key = chunk.len() as u64 * 256 + chunk[0] as u64;
+        return next_of_key(pool, directory, from, count, key);
     }
-    next_of_length(directory, from, count, chunk.len())
+    next_of_length_by_fours(directory, from, count, chunk.len())
 }
 
 // Whether the chunk's 16 bytes from `at` on are not those of the pool. All are compared, so that the

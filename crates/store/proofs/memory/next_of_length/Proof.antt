@@ -1,7 +1,7 @@
 -- `store::memory::next_of_length` meets its contract: each turn passes an entry of another length.
 use Prim.Native.Nat.{_-_}
 use native.Mathlib.Omega.{arith}
-use mathlib.Core.Path.{sym, _∙_}
+use mathlib.Core.Path.{refl, sym, _∙_}
 use Rattle.store.specs.Candidates.{OfLength}
 use Rattle.store.proofs.Candidates.{Skipped, skipped-none, skips-one, next-here, next-none}
 use Rattle.store.proofs.memory.next_of_length.Statement.{statement}
@@ -30,7 +30,7 @@ loop-less c = omega arith
 
 loop-again : tie.Need-loop-again Inv-loop μ-loop
 loop-again c =
-    skips-one (c .before .before .before .loop .inv) (c .before .before .loop-test .taken) (λ e. c .if1 .left (c .before .length-of .ensures ∙ e))
+    skips-one (c .before .before .before .loop .inv) _ refl (c .before .before .loop-test .taken) (λ e. c .if1 .left (c .before .length-of .ensures ∙ e))
 
 returns-2 : tie.Need-returns-2 Inv-loop μ-loop
 returns-2 c = next-none (c .before .loop .inv) (c .loop-test .left)
