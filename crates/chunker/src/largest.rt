@@ -94,8 +94,8 @@ pub fn pick(part: &[u8], at: usize, end: usize) -> Block
     block_16(part, end - 16)
 }
 
-// The first index of a block at which its largest byte stands: first the 16 bytes that have it,
-// then its place among them.
+// The first index of a block at which its largest byte stands: first the 16 bytes that have it, which are
+// the last 16 if no others are, then its place among them.
 pub fn first_of(part: &[u8], block: Block) -> usize
     requires { ⌜ Largest (now part) (block .from) (block .to) (block .most) ⌝ }
     requires { ⌜ (block .to - block .from) % 16 ≡ 0 ⌝ }
@@ -104,7 +104,10 @@ pub fn first_of(part: &[u8], block: Block) -> usize
 {
     let most = block.most;
     let mut at = block.from;
-    while of_16(part, at) != most {
+    while at + 16 < block.to {
+        if of_16(part, at) == most {
+            return place_of(part, at, most);
+        }
         at += 16;
     }
     place_of(part, at, most)

@@ -7,10 +7,10 @@ use Rattle.chunker.proofs.largest.first_of.Statement.{statement}
 use Rattle.chunker.proofs.largest.first_of.Tie as tie
 
 abbrev Inv-loop : tie.InvT-loop
-Inv-loop part most at₀ at = Searching part at₀ most at
+Inv-loop part block most at₀ at = Searching part at₀ most at
 
 abbrev μ-loop : tie.MeasureT-loop
-μ-loop part most at₀ at = length part - at
+μ-loop part block most at₀ at = length part - at
 
 loop-holds : tie.Need-loop-holds Inv-loop μ-loop
 loop-holds c =
@@ -23,25 +23,36 @@ loop-holds c =
       unseen = unseen-none _ _ _ _ (start .pre .0 .stands);
     }
 
+add-if1 : tie.Need-add-if1 Inv-loop μ-loop
+add-if1 c = omega (arith, searching-room _ _ _ _ (c .loop .inv))
+
 of-16-requires : tie.Need-of-16-requires Inv-loop μ-loop
-of-16-requires c κs = searching-room _ _ _ _ (c .loop .inv)
-
-add-at : tie.Need-add-at Inv-loop μ-loop
-add-at c = omega (arith, searching-room _ _ _ _ (c .before .before .loop .inv))
-
-loop-less : tie.Need-loop-less Inv-loop μ-loop
-loop-less c = omega (arith, searching-room _ _ _ _ (c .before .before .loop .inv))
-
-loop-again : tie.Need-loop-again Inv-loop μ-loop
-loop-again c = searching-on _ _ _ _ (c .before .before .loop .inv) _ (c .before .of-16 .ensures) (c .if1 .taken)
+of-16-requires c κs = searching-room _ _ _ _ (c .before .before .loop .inv)
 
 place-of-requires : tie.Need-place-of-requires Inv-loop μ-loop
 place-of-requires c κs =
-    let s = c .before .before .loop .inv in
+    let s = c .before .before .before .before .loop .inv in
     stands-wider _ _ _ _ _ (s .within) (s .unseen .stands)
 
 returns : tie.Need-returns Inv-loop μ-loop
-returns c = unseen-first _ _ _ _ _ _ (c .before .before .before .loop .inv .unseen) (c .place-of .ensures)
+returns c = unseen-first _ _ _ _ _ _ (c .before .before .before .before .before .loop .inv .unseen) (c .place-of .ensures)
+
+add-at : tie.Need-add-at Inv-loop μ-loop
+add-at c = omega (arith, searching-room _ _ _ _ (c .before .before .before .before .loop .inv))
+
+loop-less : tie.Need-loop-less Inv-loop μ-loop
+loop-less c = omega (arith, searching-room _ _ _ _ (c .before .before .before .before .loop .inv))
+
+loop-again : tie.Need-loop-again Inv-loop μ-loop
+loop-again c = searching-on _ _ _ _ (c .before .before .before .before .loop .inv) _ (c .before .of-16 .ensures) (c .if2 .left)
+
+place-of-requires-2 : tie.Need-place-of-requires-2 Inv-loop μ-loop
+place-of-requires-2 c κs =
+    let s = c .before .before .loop .inv in
+    stands-wider _ _ _ _ _ (s .within) (s .unseen .stands)
+
+returns-2 : tie.Need-returns-2 Inv-loop μ-loop
+returns-2 c = unseen-first _ _ _ _ _ _ (c .before .before .before .loop .inv .unseen) (c .place-of2 .ensures)
 
 pub first-of-spec : {M : Type 1} → statement M
 first-of-spec =
@@ -50,9 +61,12 @@ first-of-spec =
     Inv-loop
     μ-loop
     loop-holds
+    add-if1
     of-16-requires
+    place-of-requires
+    returns
     add-at
     loop-less
     loop-again
-    place-of-requires
-    returns)
+    place-of-requires-2
+    returns-2)
