@@ -54,8 +54,8 @@ pub fn scan(scanner: Scanner, part: &[u8]) -> Fed
     cut(run.window, run.at)
 }
 
-// The length of the first chunk of a job that is not empty. An admission's own scan: it has smaller
-// blocks than a feed's, so that it takes few registers from the search beside it.
+// The length of the first chunk of a job that is not empty. It scans by small blocks alone, so that the
+// scan by large ones has one caller, where the compiler inlines it.
 pub fn first_chunk(window: u32, job: &[u8]) -> usize
     requires { ⌜ windowAllowed window ≡ true ⌝ }
     requires { ⌜ 1 ≤ length (now job) ⌝ }

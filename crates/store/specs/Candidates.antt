@@ -42,7 +42,7 @@ pub record Differs (pool : List ℕ) (from : ℕ) (chunk : List ℕ) (n : ℕ) :
 pub record Agree (pool : List ℕ) (from : ℕ) (chunk : List ℕ) (a e : ℕ) : Type 0 where
   pub each : (k : ℕ) → k < e → a ≤ k → getD pool (from + k) 0 ≡ getD chunk k 0
 
--- the chunk's first n bytes stand at `from` in the pool, and one of the next 16 does not where there are as many
+-- the chunk's first n bytes stand at `from` in the pool, and where 16 more are left, not all of the chunk's do
 pub record EqualBlocks (pool : List ℕ) (from : ℕ) (chunk : List ℕ) (n : ℕ) : Type 0 where
   pub within : n ≤ length chunk
   pub agree : Agree pool from chunk 0 n
