@@ -15,13 +15,25 @@ use Rattle.chunker.specs.Answers.{opened, scan, fed, finished}
 use Rattle.chunker.specs.Chunks.{after, cutChunks, remaining, chunks}
 use Rattle.chunker.specs.Splitting.{joined, Feeding, cutting, passing, finishing}
 use Rattle.chunker.specs.Bytes.{Bytes}
-use Rattle.chunker.proofs.Soundness.{Sound, bytes-parts, bytes-drop, window-bounds, opened-fresh, accepted-ground, sound-ground, fresh-sound, after-sound, fed-accepted}
+use Rattle.chunker.proofs.Soundness.{Sound, bytes-parts, bytes-drop, window-bounds, opened-fresh, accepted-ground, sound-ground, fresh-sound, after-sound, fed-accepted, fed-refused}
 use Rattle.chunker.proofs.ChunkSizes.{after-count}
 use Rattle.chunker.proofs.FirstCut.{Scanned, whole, upTo, scanned, chunksFrom, chunks-whole, chunks-cut}
 
 -- what feeding an accepted scanner comes to
 fed-scanned : (s : Scanner) (since part : List ℕ) → groundOf s ≡ Accepted → Scanned s since 0 part (fed s part)
 fed-scanned s since part e = rw (fed-accepted s part e) (scanned s since 0 part)
+
+-- a feed that ends with a cut leaves a fresh scanner
+pub cut-fresh : (s : Scanner) (part : List ℕ) → fed s part .cut ≡ true → fed s part .scanner ≡ fresh (s .window)
+cut-fresh s part t = by-test (accepted (groundOf s)) refl
+  where
+    by-scan : (f : Fed) → Scanned s [] 0 part f → f .cut ≡ true → f .scanner ≡ fresh (s .window)
+    by-scan f (whole e c r) h = cc
+    by-scan f (upTo j l h e c r a) k = rw e
+
+    by-test : (x : Bool) → accepted (groundOf s) ≡ x → fed s part .scanner ≡ fresh (s .window)
+    by-test true a = by-scan (fed s part) (fed-scanned s [] part (accepted-ground s a)) t
+    by-test false a = let e = fed-refused s part a in cc
 
 -- feeding the parts gives the computed chunks
 abbrev Feeds : Scanner → List ℕ → List (List ℕ) → Type 0

@@ -204,6 +204,12 @@ pub fresh-refused : (w : ℕ) → windowAllowed w ≡ false → accepted (ground
 unfolding groundOf
 fresh-refused w e = rw e
 
+-- .. by ground 1
+pub fed-window : (w : ℕ) (part : List ℕ) → windowAllowed w ≡ false
+    → fed (fresh w) part ≡ record { refusal = Window; scanner = fresh w; consumed = 0; cut = false }
+unfolding fed groundOf
+fed-window w part e = rw e
+
 -- an opened scanner is accepted
 pub open-sound : (w : ℕ) → windowAllowed w ≡ true → groundOf (opened w .scanner) ≡ Accepted
 open-sound w e = rw (opened-fresh w e) (fresh-ground w e)

@@ -65,8 +65,3 @@ pub record Advanced (r next : Run) (part : List ℕ) : Type 0 where
   pub bound : next .at ≤ next .deadline
   pub cut : next .at ≡ next .deadline → consumed (fresh (r .window)) (next .at) true ≡ rest r part
   pub uncut : next .at < next .deadline → Further r next part
-
--- the same, where a chunk that does not end there cannot end in the part
-pub record Reached (r next : Run) (part : List ℕ) : Type 0 where
-  pub advanced : Advanced r next part
-  pub short : next .at < next .deadline → length part < next .deadline

@@ -1,6 +1,7 @@
 // Content-defined chunking by Asymmetric Extremum: a scanner that is handed a job in parts and
 // says where its chunks end.
 ghost use mathlib.Core.Path.{_≡_};
+ghost use mathlib.Core.Bool.{false};
 ghost use Rattle.chunker.specs.Answers.{opened, fed, finished};
 ghost use Rattle.chunker.specs.Scanner.{fresh};
 
@@ -82,6 +83,32 @@ pub fn feed(scanner: Scanner, part: &[u8]) -> Fed
         };
     }
     scan::scan(scanner, part)
+}
+
+// Moves a fresh scanner on over a part, byte by byte, with the same answer: the shorter way for a small
+// window. Refused by ground 1.
+pub fn feed_fresh(window: u32, part: &[u8]) -> Fed
+    ensures { λ r. ⌜ r ≡ fed (fresh window) (now (part .entry)) ⌝ }
+{
+    if !ground::window_allowed(window) {
+        return unmoved(Refusal::Window, window);
+    }
+    if part.len() == 0 {
+        return unmoved(Refusal::Accepted, window);
+    }
+    scan::from_start(window, part)
+}
+
+// The answer of a fresh scanner that passes no byte.
+fn unmoved(refusal: Refusal, window: u32) -> Fed
+    ensures { λ r. ⌜ r ≡ record { refusal = refusal; scanner = fresh window; consumed = 0; cut = false } ⌝ }
+{
+    Fed {
+        refusal,
+        scanner: fresh(window),
+        consumed: 0,
+        cut: false,
+    }
 }
 
 // The length of the first chunk of a job, whose last chunk no cut need end; 0 where the job is empty

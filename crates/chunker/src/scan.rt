@@ -6,7 +6,7 @@ ghost use mathlib.Core.Bool.{true, false};
 ghost use Rattle.refusal.specs.declared.Refusal.the-variants.{Accepted};
 ghost use Rattle.chunker.specs.Scanner.{windowAllowed, fresh, groundOf};
 ghost use Rattle.chunker.specs.Answers.{scan, consumed};
-ghost use Rattle.chunker.specs.Run.{standing, Going, rest, Further, Begun, Passed, Advanced, Reached};
+ghost use Rattle.chunker.specs.Run.{standing, Going, rest, Further, Begun, Passed, Advanced};
 use crate::Fed;
 use crate::Scanner;
 use crate::fresh;
@@ -44,14 +44,21 @@ pub fn scan(scanner: Scanner, part: &[u8]) -> Fed
         run = past_one(run, part);
     } else {
         run = by_blocks(run, part);
+        if run.at == run.deadline {
+            return cut(run.window, run.at);
+        }
     }
-    if run.at < run.deadline {
-        run = by_bytes(run, part);
-    }
-    if run.at < run.deadline {
-        return to_end(run, part);
-    }
-    cut(run.window, run.at)
+    by_bytes(run, part)
+}
+
+// Moves a fresh scanner on over a part that is not empty, byte by byte.
+pub fn from_start(window: u32, part: &[u8]) -> Fed
+    requires { ⌜ windowAllowed window ≡ true ⌝ }
+    requires { ⌜ 1 ≤ length (now part) ⌝ }
+    ensures { λ r. ⌜ r ≡ scan (fresh window) 0 (now (part .entry)) ⌝ }
+{
+    let run = begun(fresh(window), part);
+    by_bytes(past_one(run, part), part)
 }
 
 // The length of the first chunk of a job that is not empty. It scans by small blocks alone, so that the
@@ -66,14 +73,12 @@ pub fn first_chunk(window: u32, job: &[u8]) -> usize
         run = past_one(run, job);
     } else {
         run = by_small_blocks(run, job);
+        if run.at == run.deadline {
+            return run.at;
+        }
     }
-    if run.at < run.deadline {
-        run = by_bytes(run, job);
-    }
-    if run.at < run.deadline {
-        return job.len();
-    }
-    run.at
+    let answer = by_bytes(run, job);
+    answer.consumed
 }
 
 // The start of a scan. The first byte of a chunk is its largest so far.
@@ -162,67 +167,33 @@ fn past_one(run: Run, part: &[u8]) -> Run
     past
 }
 
-// Byte by byte, up to the chunk's end, or until it cannot end in the part: each byte is compared
-// with the largest, and where it is not larger, the number of bytes passed with the deadline.
-fn by_bytes(run: Run, part: &[u8]) -> Run
+// Byte by byte, up to the chunk's end or the part's: each byte is compared with the largest, and where it
+// is not larger, its index with that of the byte that ends the chunk.
+fn by_bytes(run: Run, part: &[u8]) -> Fed
     requires { ⌜ Going run (now part) ⌝ }
-    ensures { λ r. ⌜ Reached run r (now (part .entry)) ⌝ }
-{
-    let window = run.window;
-    let base = run.base;
-    let mut deadline = run.deadline;
-    let mut value = run.value;
-    let mut at = run.at;
-    while deadline <= part.len() {
-        let byte = part[at];
-        at += 1;
-        if byte <= value {
-            if at == deadline {
-                return Run {
-                    window,
-                    base,
-                    deadline,
-                    value,
-                    at,
-                };
-            }
-        } else {
-            value = byte;
-            deadline = at + window;
-        }
-    }
-    Run {
-        window,
-        base,
-        deadline,
-        value,
-        at,
-    }
-}
-
-// The bytes of a part in which the chunk cannot end: only a larger one matters.
-fn to_end(run: Run, part: &[u8]) -> Fed
-    requires { ⌜ Going run (now part) ⌝ }
-    requires { ⌜ length (now part) < run .deadline ⌝ }
     ensures { λ r. ⌜ r ≡ rest run (now (part .entry)) ⌝ }
 {
     let window = run.window;
     let base = run.base;
-    let mut deadline = run.deadline;
-    let mut value = run.value;
     let mut at = run.at;
+    let mut last = run.deadline - 1;
+    let mut value = run.value;
     while at < part.len() {
         let byte = part[at];
-        at += 1;
-        if byte > value {
+        if byte <= value {
+            if at == last {
+                return cut(window, at + 1);
+            }
+        } else {
             value = byte;
-            deadline = at + window;
+            last = at + window;
         }
+        at += 1;
     }
     passed(Run {
         window,
         base,
-        deadline,
+        deadline: last + 1,
         value,
         at,
     })
@@ -253,11 +224,34 @@ fn by_blocks(run: Run, part: &[u8]) -> Run
         if block.most > run.value {
             run.value = block.most;
             run.deadline = largest::first_of(part, block) + 1 + run.window;
+            if run.deadline == run.at + run.window {
+                run = while_larger(run, part);
+            }
         } else {
             if run.at == run.deadline {
                 return run;
             }
         }
+    }
+    run
+}
+
+// Passes bytes that are each larger than all before it, up to the part's last. Where a block's largest byte is
+// its last, such bytes may follow, and a block of them has its largest at its end again.
+fn while_larger(run: Run, part: &[u8]) -> Run
+    requires { ⌜ Going run (now part) ⌝ }
+    ensures { λ r. ⌜ Passed run r (now (part .entry)) ⌝ }
+{
+    let mut run = run;
+    while run.at + 1 < part.len() {
+        let at = run.at;
+        let byte = part[at];
+        if byte <= run.value {
+            return run;
+        }
+        run.value = byte;
+        run.at = at + 1;
+        run.deadline = at + 1 + run.window;
     }
     run
 }

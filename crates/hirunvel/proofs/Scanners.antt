@@ -1,18 +1,29 @@
 -- The chunker's answers are those that the definitions over four numbers give.
 use Prim.Native.Nat.{ℕ, _≤_, _<_}
-use mathlib.Core.Path.{_≡_, refl}
+use native.Mathlib.Omega.{arith}
+use mathlib.Core.Path.{_≡_, refl, sym, ap, _∙_}
 use mathlib.Core.Bool.{Bool, true, false, cond}
 use mathlib.Core.List.{List, [], _∷_}
-use lib.ListN.{getD}
+use lib.ListN.{length, getD}
+use mir.Val.{boolByte}
 use borrow.Author.Tests.{lt-ltb, le-ltb}
 use Rattle.refusal.specs.Number.{numberOf, accepted}
 use Rattle.refusal.specs.declared.Refusal.the-variants.{Window, Unsound}
 use Rattle.chunker.specs.declared.Fed.{Fed}
 use Rattle.chunker.specs.declared.Finished.{Finished}
-use Rattle.chunker.specs.Scanner.{windowAllowed, groundOf}
+use Rattle.chunker.specs.Scanner.{fresh, windowAllowed, groundOf}
 use Rattle.chunker.specs.Answers.{fed, finished}
 use Rattle.chunker.proofs.Soundness.{fed-refused, fed-ground}
+use Rattle.chunker.proofs.EverySplitting.{cut-fresh}
 use Rattle.hirunvel.specs.Scanning.{numbersOf, scannerOf, noByteGround, scannerGround, told, scannerFed, scannerFinished}
+
+-- what is written of an answer
+pub written : (f : Fed) → (f .consumed ∷ boolByte (f .cut) ∷ []) ≡ told f
+written f = ap (λ b. f .consumed ∷ b ∷ []) (by-test (f .cut))
+  where
+    by-test : (t : Bool) → boolByte t ≡ cond t 1 0
+    by-test true = refl
+    by-test false = refl
 
 -- a value that is no byte is refused
 no-byte-refused : (w : ℕ) → accepted (noByteGround w) ≡ false
@@ -84,3 +95,41 @@ module _ (n : List ℕ) where
           scannerFinished n ≡ record { refusal = numberOf (f .refusal); scanner = n; count = f .count }
       unfolding scannerFinished finished
       finish-leaves h = rw (e, ground, finish-reported false h)
+
+-- four numbers of which all but the first are 0
+pub no-byte-since : (n : List ℕ) → length n ≡ 4 → getD n 1 0 ≡ 0 → getD n 2 0 ≡ 0 → getD n 3 0 ≡ 0
+    → n ≡ numbersOf (fresh (getD n 0 0))
+no-byte-since (w ∷ c ∷ p ∷ v ∷ []) h count place value = rw (count, place, value)
+no-byte-since [] h count place value = absurd (omega arith)
+no-byte-since (w ∷ []) h count place value = absurd (omega arith)
+no-byte-since (w ∷ c ∷ []) h count place value = absurd (omega arith)
+no-byte-since (w ∷ c ∷ p ∷ []) h count place value = absurd (omega arith)
+no-byte-since (w ∷ c ∷ p ∷ v ∷ x ∷ l) h count place value = absurd (omega arith)
+
+-- the feed of a fresh scanner
+module _ (n : List ℕ) (start : n ≡ numbersOf (fresh (getD n 0 0))) (part : List ℕ) (f : Fed)
+    (e : f ≡ fed (fresh (getD n 0 0)) part) where
+  same : f ≡ fed (scannerOf n) part
+  same = e ∙ ap (λ l. fed (scannerOf l) part) (sym start)
+
+  byte : getD n 3 0 ≤ 255
+  byte = let zero : getD n 3 0 ≡ 0 = ap (λ l. getD l 3 0) start in omega arith
+
+  -- accepted or refused, it is as the chunker answers
+  pub fed-starts :
+      scannerFed n part
+      ≡ record { refusal = numberOf (f .refusal); scanner = numbersOf (f .scanner); fed = told f }
+  fed-starts = by-test (accepted (f .refusal)) refl
+    where
+      by-test : (t : Bool) → accepted (f .refusal) ≡ t →
+          scannerFed n part
+          ≡ record { refusal = numberOf (f .refusal); scanner = numbersOf (f .scanner); fed = told f }
+      by-test true h = fed-moves n byte part f same h
+      by-test false h =
+          let test = rw (e, fed-ground (fresh (getD n 0 0)) part) at h in
+          let back : f .scanner ≡ fresh (getD n 0 0) = rw (e, fed-refused (fresh (getD n 0 0)) part test) in
+          rw (fed-leaves n byte part f same h, back) (ap (λ l. record { refusal = numberOf (f .refusal); scanner = l; fed = told f }) start)
+
+  -- where a cut ends it, the numbers are as they were
+  pub cut-keeps : f .cut ≡ true → numbersOf (f .scanner) ≡ n
+  cut-keeps t = rw (e, cut-fresh (fresh (getD n 0 0)) part (rw e at t)) (sym start)

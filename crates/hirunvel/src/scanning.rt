@@ -1,8 +1,10 @@
 // The scanner as four numbers: window, count, place and value.
 ghost use mathlib.Core.Path.{_≡_};
+ghost use mathlib.Core.Bool.{true};
 ghost use Prim.Native.Nat.{_≤_};
 ghost use lib.ListN.{getD};
 ghost use Rattle.refusal.specs.Number.{numberOf};
+ghost use Rattle.chunker.specs.Scanner.{fresh};
 ghost use Rattle.hirunvel.specs.Scanning.{numbersOf, scannerOf, noByteGround, scannerOpened, scannerFed, scannerFinished};
 use crate::result;
 use chunker::Scanner;
@@ -57,14 +59,50 @@ pub extern "C" fn hirunvel_scanner_open(window: u32, scanner: &mut [u32; 4]) -> 
     result::of(refusal)
 }
 
+// No byte since the last cut: the numbers are those of a fresh scanner.
+fn untouched(numbers: [u32; 4]) -> bool
+    ensures { λ r. ⌜ (r ≡ true → numbers ≡ numbersOf (fresh (getD numbers 0 0))) ⌝ }
+{
+    if numbers[1] != 0 {
+        return false;
+    }
+    if numbers[2] != 0 {
+        return false;
+    }
+    numbers[3] == 0
+}
+
 // Moves the scanner on over a part; tells the bytes consumed, and 1 where a cut follows them.
-// Refused by grounds 1 and 2, with the scanner untouched and zeros told.
+// Refused by grounds 1 and 2, with the scanner untouched and zeros told. Most feeds with a small window
+// start a chunk and end it: they go the shorter way, after a cut of which the scanner is as it was.
 #[no_mangle]
 pub extern "C" fn hirunvel_scanner_feed(
     scanner: &mut [u32; 4],
     part: &[u8],
     fed: &mut [u64; 2],
 ) -> u32
+    ensures { λ r. ⌜ r ≡ scannerFed (now (scanner .entry)) (now (part .entry)) .refusal ⌝ }
+    ensures { λ r. ⌜ now (scanner .exit) ≡ scannerFed (now (scanner .entry)) (now (part .entry)) .scanner ⌝ }
+    ensures { λ r. ⌜ now (fed .exit) ≡ scannerFed (now (scanner .entry)) (now (part .entry)) .fed ⌝ }
+{
+    let numbers = *scanner;
+    if 16 <= numbers[0] {
+        return feed_any(scanner, part, fed);
+    }
+    if !untouched(numbers) {
+        return feed_any(scanner, part, fed);
+    }
+    let answer = chunker::feed_fresh(numbers[0], part);
+    let refusal = answer.refusal;
+    *fed = [answer.consumed as u64, answer.cut as u64];
+    if !answer.cut {
+        *scanner = numbers_of(answer.scanner);
+    }
+    result::of(refusal)
+}
+
+// The same for any scanner.
+fn feed_any(scanner: &mut [u32; 4], part: &[u8], fed: &mut [u64; 2]) -> u32
     ensures { λ r. ⌜ r ≡ scannerFed (now (scanner .entry)) (now (part .entry)) .refusal ⌝ }
     ensures { λ r. ⌜ now (scanner .exit) ≡ scannerFed (now (scanner .entry)) (now (part .entry)) .scanner ⌝ }
     ensures { λ r. ⌜ now (fed .exit) ≡ scannerFed (now (scanner .entry)) (now (part .entry)) .fed ⌝ }

@@ -93,43 +93,72 @@ add-run-2 c =
     let u = further (c .before .before .before .before .before .before .before .before .before .before) in
     omega (arith, place-small (c .before), c .before .before .before .before .before .pick .ensures .within, c .before .before .before .before .before .before .before .before .before .lesser .ensures, u .order .high, c .before .before .before .before .before .before .before .before .before .before .before .before .before .before .before .good)
 
+add-if6 : tie.Need-add-if6 Inv-loop μ-loop
+add-if6 c =
+    let blocks = c .before .before .before .before .before .before .before .before .before .before .before in
+    omega (arith, c .before .before .before .before .before .before .pick .ensures .within, c .before .before .before .before .before .before .before .before .before .before .lesser .ensures, further blocks .order .high, blocks .before .before .before .before .before .good)
+
+-- with the block's largest byte the scan is under way as before the block
+risen : (c : tie.After-first-of Inv-loop μ-loop) → let blocks = c .before .before .before .before .before .before .before .before .before in let r = blocks .by-large-blocks .result in
+    let block = c .before .before .before .before .pick .result in let a = blocks .before .before .before .before .before .args in
+    Underway (a .part .now) (r .window) (r .base) (c .first-of .result + 1 + r .window) (block .most) (block .to) (rest (a .run) (a .part .now))
+risen c =
+    let joined = c .before .before .before .before .before in
+    block-rises (further (c .before .before .before .before .before .before .before .before .before)) _ _ (c .before .before .before .before .pick .ensures) (wide joined) (omega arith) (omega arith) (room joined)
+    (c .first-of .result) _ (c .first-of .ensures) (c .before .if5 .taken) (omega arith) (omega arith)
+
+while-larger-requires : tie.Need-while-larger-requires Inv-loop μ-loop
+while-larger-requires c κs = risen (c .before .before .before .before) .order
+
+-- each turn passes a block
+block-on : (c : tie.After-pick Inv-loop μ-loop) → let at-loop = c .before .before .before .before .before .before .before .before in at-loop .loop .run .at < c .pick .result .to
+block-on c = omega (arith, c .pick .ensures .on, c .before .before .before .before .before .by-large-blocks .ensures .on)
+
 loop-less : tie.Need-loop-less Inv-loop μ-loop
 loop-less c =
-    less-left _ _ _ (c .before .before .before .before .before .before .before .before .before .before .before .if1 .taken) (omega (arith, c .before .before .before .before .before .pick .ensures .on, c .before .before .before .before .before .before .before .before .before .before .by-large-blocks .ensures .on))
+    less-left _ _ _ (c .before .before .before .before .before .before .before .before .before .before .before .before .before .before .before .if1 .taken) (omega (arith, block-on (c .before .before .before .before .before .before .before .before .before), c .while-larger .ensures .on))
 
 loop-again : tie.Need-loop-again Inv-loop μ-loop
 loop-again c =
-    let joined = c .before .before .before .before .before .before in (
-      c .before .before .before .before .before .before .before .before .before .before .before .before .before .loop .inv .0,
-      same-window (c .before .before .before .before .before .before .before .before .before .before),
-      block-rises (further (c .before .before .before .before .before .before .before .before .before .before)) _ _ (c .before .before .before .before .before .pick .ensures) (wide joined) (omega arith) (omega arith) (room joined)
-          (c .before .first-of .result) _ (c .before .first-of .ensures) (c .before .before .if5 .taken) (omega arith) (omega arith),
+    let blocks = c .before .before .before .before .before .before .before .before .before .before .before .before .before .before in
+    let larger = c .while-larger .ensures in (
+      blocks .before .before .before .loop .inv .0,
+      larger .window ∙ same-window blocks,
+      record { order = larger .going; gives = larger .gives ∙ risen (c .before .before .before .before .before) .gives },
     )
 
-returns-3 : tie.Need-returns-3 Inv-loop μ-loop
-returns-3 c =
-    let joined = c .before .before .before .before .before .before in
-    let due = c .if6 .taken in
-    let cut = block-cuts (further (c .before .before .before .before .before .before .before .before .before .before)) _ _ (c .before .before .before .before .before .pick .ensures) (wide joined) (omega arith) (omega arith) (room joined)
-    (c .before .before .if5 .left) due in
-    record {
-      window = same-window (c .before .before .before .before .before .before .before .before .before .before);
-      bound = omega arith;
-      cut = λ _. rw (same-window (c .before .before .before .before .before .before .before .before .before .before)) at cut;
-      uncut = λ h. absurd (omega arith);
-    }
-
 loop-less-2 : tie.Need-loop-less-2 Inv-loop μ-loop
-loop-less-2 c =
-    less-left _ _ _ (c .before .before .before .before .before .before .before .before .before .before .before .if1 .taken) (omega (arith, c .before .before .before .before .before .pick .ensures .on, c .before .before .before .before .before .before .before .before .before .before .by-large-blocks .ensures .on))
+loop-less-2 c = less-left _ _ _ (c .before .before .before .before .before .before .before .before .before .before .before .before .before .before .if1 .taken) (block-on (c .before .before .before .before .before .before .before .before))
 
 loop-again-2 : tie.Need-loop-again-2 Inv-loop μ-loop
 loop-again-2 c =
+    let blocks = c .before .before .before .before .before .before .before .before .before .before .before .before .before in (blocks .before .before .before .loop .inv .0, same-window blocks, risen (c .before .before .before .before))
+
+returns-3 : tie.Need-returns-3 Inv-loop μ-loop
+returns-3 c =
+    let blocks = c .before .before .before .before .before .before .before .before .before .before in
     let joined = c .before .before .before .before .before .before in
-    let early = c .if6 .left in (
-      c .before .before .before .before .before .before .before .before .before .before .before .before .before .loop .inv .0,
-      same-window (c .before .before .before .before .before .before .before .before .before .before),
-      block-passes (further (c .before .before .before .before .before .before .before .before .before .before)) _ _ (c .before .before .before .before .before .pick .ensures) (wide joined) (omega arith) (omega arith) (room joined)
+    let due = c .if7 .taken in
+    let cut = block-cuts (further blocks) _ _ (c .before .before .before .before .before .pick .ensures) (wide joined) (omega arith) (omega arith) (room joined)
+    (c .before .before .if5 .left) due in
+    record {
+      window = same-window blocks;
+      bound = omega arith;
+      cut = λ _. rw (same-window blocks) at cut;
+      uncut = λ h. absurd (omega arith);
+    }
+
+loop-less-3 : tie.Need-loop-less-3 Inv-loop μ-loop
+loop-less-3 c = less-left _ _ _ (c .before .before .before .before .before .before .before .before .before .before .before .if1 .taken) (block-on (c .before .before .before .before .before))
+
+loop-again-3 : tie.Need-loop-again-3 Inv-loop μ-loop
+loop-again-3 c =
+    let blocks = c .before .before .before .before .before .before .before .before .before .before in
+    let joined = c .before .before .before .before .before .before in
+    let early = c .if7 .left in (
+      blocks .before .before .before .loop .inv .0,
+      same-window blocks,
+      block-passes (further blocks) _ _ (c .before .before .before .before .before .pick .ensures) (wide joined) (omega arith) (omega arith) (room joined)
           (c .before .before .if5 .left) (omega arith),
     )
 
@@ -154,9 +183,13 @@ by-blocks-spec =
     first-of-requires
     add-run
     add-run-2
+    add-if6
+    while-larger-requires
     loop-less
     loop-again
-    returns-3
     loop-less-2
     loop-again-2
+    returns-3
+    loop-less-3
+    loop-again-3
     returns-4)

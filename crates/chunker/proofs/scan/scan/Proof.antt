@@ -3,9 +3,9 @@ use native.Mathlib.Omega.{arith}
 use mathlib.Core.Path.{_∙_}
 use mathlib.Core.Logic.{⊎-elim}
 use borrow.Author.Needs.{needs}
-use Rattle.chunker.specs.Run.{Advanced, Reached}
+use Rattle.chunker.specs.Run.{Further}
 use Rattle.chunker.proofs.Scanning.{stays}
-use Rattle.chunker.proofs.ScanEnds.{advanced-on, reached-already, reached-then, small-window, ends-chunk, leaves-rest}
+use Rattle.chunker.proofs.ScanEnds.{small-window, ends-chunk}
 use Rattle.chunker.proofs.scan.scan.Statement.{statement}
 use Rattle.chunker.proofs.scan.scan.Tie as tie
 
@@ -21,36 +21,31 @@ past-one-requires c κs = c .before .before .begun .ensures .going
 by-blocks-requires : tie.Need-by-blocks-requires
 by-blocks-requires c κs = search needs
 
--- the run after one byte, or after the blocks
-advanced : (c : tie.Joined2) →
-    Advanced (c .before .before .begun .result) (c .if2 .run) (c .before .before .before .before .before .args .part .now)
-advanced c =
-    ⊎-elim (λ one. rw (one .2) (advanced-on (one .1 .ensures))) (λ blocks. rw (blocks .2) (blocks .1 .ensures)) (c .if2 .came)
-
--- the run after the bytes, if any
-reached : (c : tie.Joined3) →
-    Reached (c .before .before .before .before .begun .result) (c .if3 .run) (c .before .before .before .before .before .before .before .args .part .now)
-reached c =
-    let before = advanced (c .before .before) in
-    ⊎-elim (λ bytes. rw (bytes .2) (reached-then before (bytes .0 .taken) (bytes .1 .ensures)))
-    (λ none. rw (none .1) (reached-already before (none .0 .left))) (c .if3 .came)
-
-by-bytes-requires : tie.Need-by-bytes-requires
-by-bytes-requires c κs = advanced (c .before .before) .uncut (c .if3 .taken) .going
-
-to-end-requires : tie.Need-to-end-requires
-to-end-requires c κs =
-    let r = reached (c .before .before) in (r .advanced .uncut (c .if4 .taken) .going, r .short (c .if4 .taken))
+cut-requires : tie.Need-cut-requires
+cut-requires c κs =
+    let blocks = c .before .before in
+    omega (arith, small-window (blocks .before .before .before .begun .ensures) (blocks .by-blocks .ensures))
 
 returns-2 : tie.Need-returns-2
 returns-2 c =
-    c .to-end .ensures ∙ leaves-rest (c .before .before .before .before .before .before .before .begun .ensures) (reached (c .before .before .before)) (c .before .if4 .taken)
+    let blocks = c .before .before .before in
+    c .cut .ensures
+    ∙ ends-chunk (blocks .before .before .before .begun .ensures) (blocks .by-blocks .ensures) (c .before .if3 .taken)
 
-cut-requires : tie.Need-cut-requires
-cut-requires c κs = omega (arith, small-window (c .before .before .before .before .before .before .begun .ensures) (reached (c .before .before)))
+-- the run after one byte, or after the blocks
+further : (c : tie.Joined2) → let begun = c .before .before in
+    Further (begun .begun .result) (c .if2 .run) (begun .before .before .before .args .part .now)
+further c =
+    ⊎-elim (λ one. rw (one .2) (one .1 .ensures))
+    (λ blocks. rw (blocks .4) (blocks .1 .ensures .uncut (omega (arith, blocks .1 .ensures .bound, blocks .3 .left))))
+    (c .if2 .came)
+
+by-bytes-requires : tie.Need-by-bytes-requires
+by-bytes-requires c κs = further c .going
 
 returns-3 : tie.Need-returns-3
-returns-3 c = c .cut .ensures ∙ ends-chunk (c .before .before .before .before .before .before .before .begun .ensures) (reached (c .before .before .before)) (c .before .if4 .left)
+returns-3 c =
+    c .by-bytes .ensures ∙ (further (c .before) .gives ∙ c .before .before .before .begun .ensures .gives)
 
 pub scan-spec : {M : Type 1} → statement M
 scan-spec =
@@ -60,8 +55,7 @@ scan-spec =
     begun-requires
     past-one-requires
     by-blocks-requires
-    by-bytes-requires
-    to-end-requires
-    returns-2
     cut-requires
+    returns-2
+    by-bytes-requires
     returns-3)

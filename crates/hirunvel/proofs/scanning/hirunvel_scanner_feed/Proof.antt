@@ -1,91 +1,72 @@
 -- `hirunvel::scanning::hirunvel_scanner_feed` meets its contract.
-use mathlib.Core.Path.{_≡_, refl, sym, ap, _∙_}
-use mathlib.Core.Bool.{Bool, true, false, cond}
-use mathlib.Core.List.{[], _∷_}
-use mir.Val.{boolByte}
+use mathlib.Core.Path.{_≡_, sym, _∙_}
+use mathlib.Core.Logic.{⊎-elim}
 use borrow.Author.Needs.{needs}
-use borrow.Author.Tests.{not-true, not-false}
-use Rattle.chunker.specs.declared.Fed.{Fed}
-use Rattle.chunker.specs.Answers.{fed}
-use Rattle.hirunvel.specs.Scanning.{scannerOf, told}
-use Rattle.hirunvel.proofs.Scanners.{fed-no-byte, fed-moves, fed-leaves}
+use borrow.Author.Tests.{not-false}
+use Rattle.hirunvel.specs.Scanning.{numbersOf}
+use Rattle.hirunvel.proofs.Scanners.{written, fed-starts, cut-keeps}
 use Rattle.hirunvel.proofs.scanning.hirunvel_scanner_feed.Statement.{statement}
 use Rattle.hirunvel.proofs.scanning.hirunvel_scanner_feed.Tie as tie
-
--- what is written of an answer
-written : (f : Fed) → (f .consumed ∷ boolByte (f .cut) ∷ []) ≡ told f
-written f = ap (λ b. f .consumed ∷ b ∷ []) (by-test (f .cut))
-  where
-    by-test : (t : Bool) → boolByte t ≡ cond t 1 0
-    by-test true = refl
-    by-test false = refl
 
 array-read-if1 : tie.Need-array-read-if1
 array-read-if1 c = search needs
 
-array-read-no-byte : tie.Need-array-read-no-byte
-array-read-no-byte c = search needs
-
-no-byte-requires : tie.Need-no-byte-requires
-no-byte-requires c κs = search needs
+feed-any-requires : tie.Need-feed-any-requires
+feed-any-requires c κs = search needs
 
 returns : tie.Need-returns
-returns c = rw (fed-no-byte _ (c .before .before .if1 .taken) _) (c .no-byte .ensures, (refl, refl))
+returns c = c .feed-any .ensures
 
-scanner-of-requires : tie.Need-scanner-of-requires
-scanner-of-requires c κs = search needs
+untouched-requires : tie.Need-untouched-requires
+untouched-requires c κs = search needs
 
-feed-requires : tie.Need-feed-requires
-feed-requires c κs = search needs
-
-cast-t17 : tie.Need-cast-t17
-cast-t17 c = search needs
-
-accepted-requires : tie.Need-accepted-requires
-accepted-requires c κs = search needs
-
-of-requires : tie.Need-of-requires
-of-requires c κs = search needs
-
--- the answer to the lent numbers and the lent part
-answered : (c : tie.After-feed) → let a = c .before .before .before .before .before .args in
-    c .feed .result ≡ fed (scannerOf (a .scanner .now)) (a .part .now)
-answered c = c .feed .ensures ∙ ap (λ s. fed s (c .before .before .before .before .before .args .part .now)) (c .before .scanner-of .ensures)
+feed-any-requires-2 : tie.Need-feed-any-requires-2
+feed-any-requires-2 c κs = search needs
 
 returns-2 : tie.Need-returns-2
-returns-2 c =
-    let a = c .before .before .before .before .before .before .before .before .before .before .args in
-    let test = sym (c .before .before .accepted .ensures) ∙ not-true _ (c .before .if2 .taken) in
-    rw (fed-leaves (a .scanner .now) (c .before .before .before .before .before .before .before .if1 .left) (a .part .now) _ (answered (c .before .before .before .before .before)) test)
-    (c .of .ensures, (refl, written (c .before .before .before .before .before .feed .result)))
+returns-2 c = c .feed-any2 .ensures
+
+array-read-feed-fresh : tie.Need-array-read-feed-fresh
+array-read-feed-fresh c = search needs
+
+feed-fresh-requires : tie.Need-feed-fresh-requires
+feed-fresh-requires c κs = search needs
+
+cast-t20 : tie.Need-cast-t20
+cast-t20 c = search needs
 
 numbers-of-requires : tie.Need-numbers-of-requires
 numbers-of-requires c κs = search needs
 
-of-requires-2 : tie.Need-of-requires-2
-of-requires-2 c κs = search needs
+of-requires : tie.Need-of-requires
+of-requires c κs = search needs
 
 returns-3 : tie.Need-returns-3
 returns-3 c =
-    let a = c .before .before .before .before .before .before .before .before .before .before .before .args in
-    let test = sym (c .before .before .before .accepted .ensures) ∙ not-false _ (c .before .before .if2 .left) in
-    rw (fed-moves (a .scanner .now) (c .before .before .before .before .before .before .before .before .if1 .left) (a .part .now) _ (answered (c .before .before .before .before .before .before)) test)
-    (c .of2 .ensures, (c .before .numbers-of .ensures, written (c .before .before .before .before .before .before .feed .result)))
+    let joined = c .before in
+    let feed = joined .before .before .before .before in
+    let a = feed .before .before .before .before .before .before .args in
+    let start = feed .before .before .untouched .ensures (not-false _ (feed .before .if2 .left)) in
+    let scanner : joined .if3 .scanner ≡ numbersOf (feed .feed-fresh .result .scanner) =
+    ⊎-elim (λ moved. moved .2 ∙ moved .1 .ensures)
+    (λ kept. kept .1 ∙ sym (cut-keeps (a .scanner .now) start (a .part .now) _ (feed .feed-fresh .ensures) (not-false _ (kept .0 .left))))
+    (joined .if3 .came) in
+    rw (fed-starts (a .scanner .now) start (a .part .now) _ (feed .feed-fresh .ensures))
+    (c .of .ensures, (scanner, written (feed .feed-fresh .result)))
 
 pub hirunvel-scanner-feed-spec : {M : Type 1} → statement M
 hirunvel-scanner-feed-spec =
     tie.close
     (tie.spec
     array-read-if1
-    array-read-no-byte
-    no-byte-requires
+    feed-any-requires
     returns
-    scanner-of-requires
-    feed-requires
-    cast-t17
-    accepted-requires
-    of-requires
+    untouched-requires
+    feed-any-requires-2
     returns-2
+    array-read-feed-fresh
+    feed-fresh-requires
+    cast-t20
     numbers-of-requires
-    of-requires-2
+    of-requires
     returns-3)
