@@ -12,7 +12,6 @@ mod grounds;
 mod staging;
 
 use refusal::Refusal;
-use store::ChunkNumber;
 use store::Head;
 
 // How many bytes were written, 0 when refused.
@@ -53,10 +52,9 @@ fn chunk_of<'p, 'd>(pool: &'p [u8], directory: &'d [u32], number: u32) -> &'p [u
     requires { ⌜ offsetAt (now directory) number + lengthAt (now directory) number ≤ length (now pool) ⌝ }
     ensures { λ r. ⌜ now r ≡ chunkAt (now (pool .entry)) (now (directory .entry)) number ⌝ }
 {
-    let stretch = store::stretch_of(directory, ChunkNumber(number));
-    let offset = stretch.offset;
-    let from = offset.0 as usize;
-    let to = from + stretch.length as usize;
+    let at = number as usize * 2;
+    let from = directory[at] as usize;
+    let to = from + directory[at + 1] as usize;
     &pool[from..to]
 }
 

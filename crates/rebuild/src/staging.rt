@@ -1,18 +1,19 @@
 // The staging buffer that each chunk passes through.
 ghost use mathlib.Core.Path.{_≡_};
-ghost use Prim.Native.Nat.{_+_, _≤_, min};
+ghost use Prim.Native.Nat.{_+_, _≤_};
 ghost use lib.ListN.{length};
 ghost use Rattle.store.specs.Filling.{written};
 use crate::copying;
 
-// How many of the bytes that are left the buffer takes.
-fn part_size(left: usize) -> usize
-    ensures { λ r. ⌜ r ≡ min left 256 ⌝ }
+// Writes bytes to a place of the output, through a buffer that has room for them.
+fn copy_part(staging: &mut [u8], output: &mut [u8], at: usize, part: &[u8])
+    requires { ⌜ length (now part) ≤ length (now staging) ⌝ }
+    requires { ⌜ at + length (now part) ≤ length (now output) ⌝ }
+    ensures { λ _. ⌜ now (output .exit) ≡ written (now (output .entry)) at (now (part .entry)) ⌝ }
 {
-    if 256 < left {
-        return 256;
-    }
-    left
+    copying::copy(staging, 0, part);
+    let size = part.len();
+    copying::copy(output, at, &staging[..size]);
 }
 
 // Writes a chunk to a place of the output, at most 256 bytes at a time.
@@ -22,11 +23,10 @@ pub fn copy_staged(output: &mut [u8], at: usize, chunk: &[u8])
 {
     let mut staging = [0u8; 256];
     let mut from = 0;
-    while from < chunk.len() {
-        let size = part_size(chunk.len() - from);
-        let to = from + size;
-        copying::copy(&mut staging, 0, &chunk[from..to]);
-        copying::copy(output, at + from, &staging[..size]);
+    while from + 256 < chunk.len() {
+        let to = from + 256;
+        copy_part(&mut staging, output, at + from, &chunk[from..to]);
         from = to;
     }
+    copy_part(&mut staging, output, at + from, &chunk[from..]);
 }

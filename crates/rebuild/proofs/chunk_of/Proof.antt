@@ -1,32 +1,36 @@
 -- `rebuild::chunk_of` meets its contract.
 use native.Mathlib.Omega.{arith}
 use native.Mathlib.Nat.{add-sub-cancel-left}
-use mathlib.Core.Path.{_≡_, ap, _∙_}
 use borrow.Author.Needs.{needs}
-use Rattle.store.specs.Directory.{offsetAt, lengthAt}
-use Rattle.store.proofs.Stretches.{stretch-found}
 use Rattle.rebuild.proofs.chunk_of.Statement.{statement}
 use Rattle.rebuild.proofs.chunk_of.Tie as tie
 
-stretch-of-requires : tie.Need-stretch-of-requires
-stretch-of-requires c κs = tt
+mul-at : tie.Need-mul-at
+mul-at c = search needs
 
--- the stretch is that of the entry
-entry : (c : tie.After-stretch-of) → let a = c .before .before .before .args in
-    (c .stretch-of .result .offset .0 ≡ offsetAt (a .directory .now) (a .number))
-    × (c .stretch-of .result .length ≡ lengthAt (a .directory .now) (a .number))
-entry c =
-    let found = c .stretch-of .ensures ∙ stretch-found _ _ (c .before .before .before .pre .0) in
-    (ap (λ t. t .offset .0) found, ap (λ t. t .length) found)
+mul-from : tie.Need-mul-from
+mul-from c = omega (arith, c .pre .0)
+
+shared-slice-read-from : tie.Need-shared-slice-read-from
+shared-slice-read-from c = omega (arith, c .before .pre .0)
 
 cast-from : tie.Need-cast-from
 cast-from c = search needs
 
+add-to : tie.Need-add-to
+add-to c = search needs
+
+mul-to : tie.Need-mul-to
+mul-to c = omega (arith, c .before .pre .0)
+
+shared-slice-read-to : tie.Need-shared-slice-read-to
+shared-slice-read-to c = omega (arith, c .before .before .pre .0)
+
 cast-to : tie.Need-cast-to
 cast-to c = search needs
 
-add-to : tie.Need-add-to
-add-to c = search needs
+add-to-2 : tie.Need-add-to-2
+add-to-2 c = omega (arith, c .before .before .pre .1)
 
 sub-result : tie.Need-sub-result
 sub-result c = search needs
@@ -35,21 +39,24 @@ part-result-start : tie.Need-part-result-start
 part-result-start c = search needs
 
 part-result-end : tie.Need-part-result-end
-part-result-end c =
-    let found = c .before .before .before in
-    omega (arith, entry found .0, entry found .1, found .before .before .before .pre .1)
+part-result-end c = omega (arith, c .before .before .pre .1)
 
 returns : tie.Need-returns
-returns c = let found = c .before .before .before .before in rw (add-sub-cancel-left, entry found .0, entry found .1)
+returns c = rw add-sub-cancel-left
 
 pub chunk-of-spec : {M : Type 1} → statement M
 chunk-of-spec =
     tie.close
     (tie.spec
-    stretch-of-requires
+    mul-at
+    mul-from
+    shared-slice-read-from
     cast-from
-    cast-to
     add-to
+    mul-to
+    shared-slice-read-to
+    cast-to
+    add-to-2
     sub-result
     part-result-start
     part-result-end

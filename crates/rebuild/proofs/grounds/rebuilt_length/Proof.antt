@@ -1,7 +1,8 @@
 -- `rebuild::grounds::rebuilt_length` meets its contract: each turn counts the bytes of one number.
-use Prim.Native.Nat.{_+_, _-_}
+use Prim.Native.Nat.{_+_, _-_, _*_, _<_}
 use native.Mathlib.Omega.{arith}
-use lib.ListN.{length}
+use lib.ListN.{length, getD}
+use Rattle.store.specs.Directory.{stride, lengthAt}
 use Rattle.rebuild.proofs.Recipes.{Counted, none-counted, one-counted, counted-small, all-counted}
 use Rattle.rebuild.proofs.FoundChunks.{found-length}
 use Rattle.rebuild.proofs.grounds.rebuilt_length.Statement.{statement}
@@ -22,27 +23,47 @@ mul-number c = omega arith
 shared-slice-read-number : tie.Need-shared-slice-read-number Inv-loop μ-loop
 shared-slice-read-number c = omega arith
 
-stretch-of-requires : tie.Need-stretch-of-requires Inv-loop μ-loop
-stretch-of-requires c κs = tt
+cast-at : tie.Need-cast-at Inv-loop μ-loop
+cast-at c = omega (arith, c .shared-slice-known .given (c .before .before .loop .i))
+
+-- the entry of the number stands in the directory
+entered : (c : tie.After-shared-slice-known Inv-loop μ-loop)
+    → let turn = c .before .before in
+    let args = turn .before .args in getD (args .recipe .now) (turn .loop .i) 0 * stride + 1 < length (args .directory .now)
+entered c = c .before .before .before .pre .1 .1 .entered (c .before .before .loop .i) (c .before .loop-test .taken)
+
+mul-at : tie.Need-mul-at Inv-loop μ-loop
+mul-at c = omega (arith, entered c)
+
+add-at : tie.Need-add-at Inv-loop μ-loop
+add-at c = omega (arith, entered c)
+
+mul-total : tie.Need-mul-total Inv-loop μ-loop
+mul-total c = omega (arith, entered c)
+
+shared-slice-read-total : tie.Need-shared-slice-read-total Inv-loop μ-loop
+shared-slice-read-total c = entered (c .before)
 
 -- the bytes of one more number
-counted : (c : tie.After-stretch-of Inv-loop μ-loop)
-    → let turn = c .before .before .before in
-    let args = turn .before .before .before .before .args in
+counted : (c : tie.After-shared-slice-known Inv-loop μ-loop)
+    → let turn = c .before .before in
+    let args = turn .before .args in
     Counted (args .pool .now) (args .directory .now) (args .recipe .now) (turn .loop .i + 1)
-    (turn .loop .total + c .stretch-of .result .length)
+    (turn .loop .total + lengthAt (args .directory .now) (getD (args .recipe .now) (turn .loop .i) 0))
 counted c =
-    let turn = c .before .before .before in
-    let more = c .before .before .loop-test .taken in
-    one-counted (turn .loop .inv) _ more
-    (found-length (turn .before .before .before .before .pre .1 .1) (turn .loop .i) more _ (c .stretch-of .ensures))
+    let turn = c .before .before in
+    let more = c .before .loop-test .taken in
+    one-counted (turn .loop .inv) _ more (found-length (turn .before .pre .1 .1) (turn .loop .i) more)
 
 cast-total : tie.Need-cast-total Inv-loop μ-loop
-cast-total c = omega arith
+cast-total c =
+    let turn = c .before .before .before in
+    let number = getD (turn .before .args .recipe .now) (turn .loop .i) 0 in
+    omega (arith, c .shared-slice-known2 .given (number * stride + 1))
 
 add-total : tie.Need-add-total Inv-loop μ-loop
 add-total c =
-    let pre = c .before .before .before .before .before .before .before .before .pre in
+    let pre = c .before .before .before .before .pre in
     omega (arith, counted-small (counted (c .before)) (pre .0) (pre .1 .0))
 
 add-i : tie.Need-add-i Inv-loop μ-loop
@@ -66,7 +87,11 @@ rebuilt-length-spec =
     loop-holds
     mul-number
     shared-slice-read-number
-    stretch-of-requires
+    cast-at
+    mul-at
+    add-at
+    mul-total
+    shared-slice-read-total
     cast-total
     add-total
     add-i

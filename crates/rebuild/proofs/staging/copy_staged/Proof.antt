@@ -1,81 +1,84 @@
--- `rebuild::staging::copy_staged` meets its contract: each turn passes one part of the chunk through the buffer.
+-- `rebuild::staging::copy_staged` meets its contract: each turn passes 256 bytes of the chunk through the buffer.
 use Prim.Native.Nat.{_-_}
 use native.Mathlib.Omega.{arith}
-use mathlib.Core.Path.{refl, sym}
+use mathlib.Core.Path.{_≡_, refl}
 use lib.ListN.{length}
-use Rattle.rebuild.proofs.StagedParts.{Staged, Held, none-staged, part-fits, part-held, one-staged, all-staged}
+use Rattle.rebuild.proofs.StagedParts.{Staged, none-staged, room, part-length, rest-length, one-staged, all-staged}
 use Rattle.rebuild.proofs.staging.copy_staged.Statement.{statement}
 use Rattle.rebuild.proofs.staging.copy_staged.Tie as tie
 
 abbrev Inv-loop : tie.InvT-loop
-Inv-loop output₀ at chunk staging₀ from₀ output staging from = Staged output₀ at chunk output staging from
+Inv-loop output₀ at chunk staging₀ from₀ output staging from = Staged output₀ at chunk output from × (length staging ≡ 256)
 
 abbrev μ-loop : tie.MeasureT-loop
 μ-loop output₀ at chunk staging₀ from₀ output staging from = length chunk - from
 
 loop-holds : tie.Need-loop-holds Inv-loop μ-loop
-loop-holds c = none-staged (c .before .before .pre) refl
+loop-holds c = (none-staged (c .before .before .pre), refl)
 
-sub-part-size : tie.Need-sub-part-size Inv-loop μ-loop
-sub-part-size c = omega arith
-
-part-size-requires : tie.Need-part-size-requires Inv-loop μ-loop
-part-size-requires c κs = tt
+add-loop : tie.Need-add-loop Inv-loop μ-loop
+add-loop c = omega (arith, c .loop .inv .0 .order)
 
 add-to : tie.Need-add-to Inv-loop μ-loop
 add-to c = omega arith
 
-slice-aggregate-copy : tie.Need-slice-aggregate-copy Inv-loop μ-loop
-slice-aggregate-copy c = omega arith
+slice-aggregate-copy-part : tie.Need-slice-aggregate-copy-part Inv-loop μ-loop
+slice-aggregate-copy-part c = omega arith
 
-sub-copy : tie.Need-sub-copy Inv-loop μ-loop
-sub-copy c = omega arith
+add-copy-part : tie.Need-add-copy-part Inv-loop μ-loop
+add-copy-part c = omega arith
 
-part-copy-start : tie.Need-part-copy-start Inv-loop μ-loop
-part-copy-start c = omega arith
+sub-copy-part : tie.Need-sub-copy-part Inv-loop μ-loop
+sub-copy-part c = omega arith
 
-part-copy-end : tie.Need-part-copy-end Inv-loop μ-loop
-part-copy-end c = omega arith
+part-copy-part-start : tie.Need-part-copy-part-start Inv-loop μ-loop
+part-copy-part-start c = omega arith
 
-copy-requires : tie.Need-copy-requires Inv-loop μ-loop
-copy-requires c κs = part-fits (c .before .before .before .before .loop .inv) _ (c .before .before .part-size .ensures)
+part-copy-part-end : tie.Need-part-copy-part-end Inv-loop μ-loop
+part-copy-part-end c = omega arith
 
--- the buffer holds the part once it is copied there
-held : (c : tie.After-copy Inv-loop μ-loop)
-    → let turn = c .before .before .before .before .before in
-    Held (turn .before .before .before .args .chunk .now) (c .copy .last .0) (turn .loop .from)
-    (c .before .before .before .part-size .result)
-held c =
-    part-held (c .before .before .before .before .before .loop .inv) _ (c .before .before .before .part-size .ensures) _
-    (c .copy .ensures)
-
-add-copy : tie.Need-add-copy Inv-loop μ-loop
-add-copy c = omega arith
-
-array-share-prefix-staging : tie.Need-array-share-prefix-staging Inv-loop μ-loop
-array-share-prefix-staging c = omega arith
-
-slice-aggregate-copy-2 : tie.Need-slice-aggregate-copy-2 Inv-loop μ-loop
-slice-aggregate-copy-2 c = sym (held (c .before .before .before) .partLength)
-
-copy-requires-2 : tie.Need-copy-requires-2 Inv-loop μ-loop
-copy-requires-2 c κs = let h = held (c .before .before .before) in omega arith
+copy-part-requires : tie.Need-copy-part-requires Inv-loop μ-loop
+copy-part-requires c κs =
+    let turn = c .before .before .before .before in
+    let long = part-length (turn .loop .inv .0) 256 (omega arith) in
+    omega (arith, long, turn .loop .inv .1, room (turn .loop .inv .0))
 
 loop-less : tie.Need-loop-less Inv-loop μ-loop
 loop-less c = omega arith
 
 loop-again : tie.Need-loop-again Inv-loop μ-loop
 loop-again c =
-    let copied = c .before .before .before .before .before .before in
+    let copied = c .before .before .before in
     let turn = copied .before .before .before .before .before in
-    one-staged (turn .loop .inv) _ (copied .before .before .before .part-size .ensures) _ _ (held copied)
-    (c .before .before .copy2 .ensures)
+    (one-staged (turn .loop .inv .0) 256 (omega arith) _ (copied .copy-part .ensures), omega (arith, turn .loop .inv .1))
+
+slice-aggregate-copy-part-2 : tie.Need-slice-aggregate-copy-part-2 Inv-loop μ-loop
+slice-aggregate-copy-part-2 c = omega arith
+
+add-copy-part-2 : tie.Need-add-copy-part-2 Inv-loop μ-loop
+add-copy-part-2 c = omega arith
+
+sub-copy-part-2 : tie.Need-sub-copy-part-2 Inv-loop μ-loop
+sub-copy-part-2 c = omega arith
+
+part-copy-part-start-2 : tie.Need-part-copy-part-start-2 Inv-loop μ-loop
+part-copy-part-start-2 c = omega arith
+
+part-copy-part-end-2 : tie.Need-part-copy-part-end-2 Inv-loop μ-loop
+part-copy-part-end-2 c = omega arith
+
+copy-part-requires-2 : tie.Need-copy-part-requires-2 Inv-loop μ-loop
+copy-part-requires-2 c κs =
+    let end = c .before .before .before .before in
+    omega (arith, rest-length (end .loop .inv .0), end .loop .inv .1, room (end .loop .inv .0), end .loop .inv .0 .order)
 
 same-length : tie.Need-same-length Inv-loop μ-loop
-same-length c = c .before .loop .inv .left .sameLength
+same-length c = omega arith
 
 returns : tie.Need-returns Inv-loop μ-loop
-returns c = all-staged (c .before .loop .inv) (c .loop-test .left)
+returns c =
+    let copied = c .before .before .before in
+    all-staged (copied .before .before .before .before .before .loop .inv .0) _ (copied .copy-part2 .ensures)
 
 pub copy-staged-spec : {M : Type 1} → statement M
 copy-staged-spec =
@@ -84,19 +87,21 @@ copy-staged-spec =
     Inv-loop
     μ-loop
     loop-holds
-    sub-part-size
-    part-size-requires
+    add-loop
     add-to
-    slice-aggregate-copy
-    sub-copy
-    part-copy-start
-    part-copy-end
-    copy-requires
-    add-copy
-    array-share-prefix-staging
-    slice-aggregate-copy-2
-    copy-requires-2
+    slice-aggregate-copy-part
+    add-copy-part
+    sub-copy-part
+    part-copy-part-start
+    part-copy-part-end
+    copy-part-requires
     loop-less
     loop-again
+    slice-aggregate-copy-part-2
+    add-copy-part-2
+    sub-copy-part-2
+    part-copy-part-start-2
+    part-copy-part-end-2
+    copy-part-requires-2
     same-length
     returns)
