@@ -2,7 +2,7 @@
 ghost use mathlib.Core.Path.{_≡_};
 ghost use mathlib.Core.Bool.{true, false};
 ghost use Prim.Native.Nat.{_+_, _*_, _≤_, _<_};
-ghost use lib.ListN.{length, set};
+ghost use lib.ListN.{length, take, drop, set};
 ghost use Rattle.store.specs.Directory.{offsetAt, lengthAt};
 ghost use Rattle.store.specs.Contents.{contents, number};
 ghost use Rattle.store.specs.Candidates.{Next, OfLength, keyAt, OfKey, NextCandidate, Differs, Agree, EqualBlocks};
@@ -199,17 +199,49 @@ pub fn search(pool: &[u8], directory: &[u32], chunks: ChunkNumber, chunk: &[u8])
     chunks
 }
 
-// Writes a chunk into the pool.
+// Writes bytes to a place.
+fn copy_bytes(memory: &mut [u8], at: usize, bytes: &[u8])
+    requires { ⌜ at + length (now bytes) ≤ length (now memory) ⌝ }
+    ensures { λ _. ⌜ now (memory .exit) ≡ written (now (memory .entry)) at (now (bytes .entry)) ⌝ }
+{
+    let mut i = 0;
+    while i < bytes.len() {
+        memory[at + i] = bytes[i];
+        i += 1;
+    }
+}
+
+// Writes 16 bytes of a chunk into the pool. They pass through an array, which cannot overlap the pool, so
+// that the compiler moves them at once.
+fn copy_16(pool: &mut [u8], at: usize, chunk: &[u8], from: usize)
+    requires { ⌜ at + 16 ≤ length (now pool) ⌝ }
+    requires { ⌜ from + 16 ≤ length (now chunk) ⌝ }
+    ensures { λ _. ⌜ now (pool .exit) ≡ written (now (pool .entry)) at (take 16 (drop from (now (chunk .entry)))) ⌝ }
+{
+    let mut block = [0u8; 16];
+    let to = from + 16;
+    copy_bytes(&mut block, 0, &chunk[from..to]);
+    copy_bytes(pool, at, &block[..]);
+}
+
+// Writes a chunk into the pool, 16 bytes at a time. The last 16 reach back over bytes that are written
+// already.
 pub fn copy(pool: &mut [u8], at: PoolOffset, chunk: &[u8])
     requires { ⌜ at .0 + length (now chunk) ≤ length (now pool) ⌝ }
     ensures { λ _. ⌜ now (pool .exit) ≡ written (now (pool .entry)) (at .0) (now (chunk .entry)) ⌝ }
 {
-    let from = at.0 as usize;
-    let mut i = 0;
-    while i < chunk.len() {
-        pool[from + i] = chunk[i];
-        i += 1;
+    let start = at.0 as usize;
+    if chunk.len() < 16 {
+        copy_bytes(pool, start, chunk);
+        return;
     }
+    let mut done = 0;
+    while done + 16 < chunk.len() {
+        copy_16(pool, start + done, chunk, done);
+        done += 16;
+    }
+    let last = chunk.len() - 16;
+    copy_16(pool, start + last, chunk, last);
 }
 
 // Enters a chunk's place with the next number.

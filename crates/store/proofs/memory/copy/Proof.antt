@@ -1,46 +1,73 @@
--- `store::memory::copy` meets its contract: each turn copies one byte.
+-- `store::memory::copy` meets its contract: each turn copies 16 bytes.
 use Prim.Native.Nat.{_-_}
 use native.Mathlib.Omega.{arith}
 use lib.ListN.{length}
-use Rattle.store.proofs.Copying.{Copied, copied-none, copied-more, copied-all}
+use Rattle.store.proofs.Copying.{Copied, copied-none, copied-over, copied-all}
 use Rattle.store.proofs.memory.copy.Statement.{statement}
 use Rattle.store.proofs.memory.copy.Tie as tie
 
 abbrev Inv-loop : tie.InvT-loop
-Inv-loop pool₀ chunk from i₀ pool i = Copied pool₀ from chunk pool i
+Inv-loop pool₀ chunk start done₀ pool done = Copied pool₀ start chunk pool done
 
 abbrev μ-loop : tie.MeasureT-loop
-μ-loop pool₀ chunk from i₀ pool i = length chunk - i
+μ-loop pool₀ chunk start done₀ pool done = length chunk - done
 
-cast-from : tie.Need-cast-from Inv-loop μ-loop
-cast-from c = omega arith
+cast-start : tie.Need-cast-start Inv-loop μ-loop
+cast-start c = omega arith
+
+copy-bytes-requires : tie.Need-copy-bytes-requires Inv-loop μ-loop
+copy-bytes-requires c κs = c .before .before .before .before .before .pre
+
+same-length : tie.Need-same-length Inv-loop μ-loop
+same-length c = omega arith
+
+returns : tie.Need-returns Inv-loop μ-loop
+returns c = c .before .before .copy-bytes .ensures
 
 loop-holds : tie.Need-loop-holds Inv-loop μ-loop
-loop-holds c = copied-none (c .before .pre)
+loop-holds c = copied-none (c .before .before .before .before .pre)
 
-shared-slice-read-pool : tie.Need-shared-slice-read-pool Inv-loop μ-loop
-shared-slice-read-pool c = omega arith
+add-loop : tie.Need-add-loop Inv-loop μ-loop
+add-loop c = omega (arith, c .loop .inv .within)
 
-add-pool : tie.Need-add-pool Inv-loop μ-loop
-add-pool c = omega arith
+add-copy-16 : tie.Need-add-copy-16 Inv-loop μ-loop
+add-copy-16 c = omega arith
 
-slice-write-pool : tie.Need-slice-write-pool Inv-loop μ-loop
-slice-write-pool c = omega arith
+copy-16-requires : tie.Need-copy-16-requires Inv-loop μ-loop
+copy-16-requires c κs = let inv = c .before .before .loop .inv in omega (arith, inv .fits, inv .kept)
 
-add-i : tie.Need-add-i Inv-loop μ-loop
-add-i c = omega arith
+add-done : tie.Need-add-done Inv-loop μ-loop
+add-done c = omega arith
 
 loop-less : tie.Need-loop-less Inv-loop μ-loop
 loop-less c = omega arith
 
 loop-again : tie.Need-loop-again Inv-loop μ-loop
-loop-again c = copied-more (c .before .before .loop .inv) (c .before .loop-test .taken)
+loop-again c =
+    let copied = c .before .before in
+    let turn = copied .before .before .before in
+    copied-over (turn .loop .inv) (turn .loop .done) 16 (omega arith) (omega arith) (omega arith) _ (copied .copy-16 .ensures)
 
-same-length : tie.Need-same-length Inv-loop μ-loop
-same-length c = c .before .loop .inv .kept
+sub-last : tie.Need-sub-last Inv-loop μ-loop
+sub-last c = omega arith
 
-returns : tie.Need-returns Inv-loop μ-loop
-returns c = copied-all (c .before .loop .inv) (c .loop-test .left)
+add-copy-16-2 : tie.Need-add-copy-16-2 Inv-loop μ-loop
+add-copy-16-2 c = omega arith
+
+copy-16-requires-2 : tie.Need-copy-16-requires-2 Inv-loop μ-loop
+copy-16-requires-2 c κs = let inv = c .before .before .loop .inv in omega (arith, inv .fits, inv .kept)
+
+same-length-2 : tie.Need-same-length-2 Inv-loop μ-loop
+same-length-2 c = omega (arith, c .before .before .before .before .before .loop .inv .kept)
+
+returns-2 : tie.Need-returns-2 Inv-loop μ-loop
+returns-2 c =
+    let copied = c .before .before in
+    let end = copied .before .before .before in
+    let chunk = end .before .before .before .before .before .args .chunk .now in
+    copied-all
+    (copied-over (end .loop .inv) (length chunk - 16) 16 (omega arith) (omega (arith, end .loop .inv .within)) (omega arith) _ (copied .copy-162 .ensures))
+    (omega arith)
 
 pub copy-spec : {M : Type 1} → statement M
 copy-spec =
@@ -48,13 +75,19 @@ copy-spec =
     (tie.spec
     Inv-loop
     μ-loop
-    cast-from
+    cast-start
+    copy-bytes-requires
+    same-length
+    returns
     loop-holds
-    shared-slice-read-pool
-    add-pool
-    slice-write-pool
-    add-i
+    add-loop
+    add-copy-16
+    copy-16-requires
+    add-done
     loop-less
     loop-again
-    same-length
-    returns)
+    sub-last
+    add-copy-16-2
+    copy-16-requires-2
+    same-length-2
+    returns-2)
