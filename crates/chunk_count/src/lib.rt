@@ -15,10 +15,11 @@ pub extern "C" fn hirunvel_chunk_count(window: u32, job: &[u8]) -> u64
     }
     let scanner = opened.scanner;
     let mut n: u64 = 0;
-    let mut at: usize = 0;
-    while at < job.len() {
-        let fed = chunker::feed(scanner, &job[at..]);
-        at += fed.consumed;
+    let mut rest = job;
+    while rest.len() != 0 {
+        let fed = chunker::feed(scanner, rest);
+        let to = fed.consumed;
+        rest = &rest[to..];
         n += 1;
     }
     n

@@ -1,5 +1,4 @@
 -- `chunk_count::hirunvel_chunk_count` meets its contract. Each turn takes one chunk.
-use Prim.Native.Nat.{_-_}
 use native.Mathlib.Omega.{arith}
 use mathlib.Core.Path.{_≡_, sym, ap, _∙_}
 use borrow.Author.Needs.{needs}
@@ -14,10 +13,10 @@ use Rattle.chunk_count.proofs.hirunvel_chunk_count.Statement.{statement
 use Rattle.chunk_count.proofs.hirunvel_chunk_count.Tie as tie
 
 abbrev Inv-loop : tie.InvT-loop
-Inv-loop window job scanner n₀ at₀ n at = (scanner ≡ fresh window) × Counted window job n at
+Inv-loop window job scanner n₀ rest₀ n rest = (scanner ≡ fresh window) × Counted window job n rest
 
 abbrev μ-loop : tie.MeasureT-loop
-μ-loop window job scanner n₀ at₀ n at = length job - at
+μ-loop window job scanner n₀ rest₀ n rest = length rest
 
 open-requires : tie.Need-open-requires Inv-loop μ-loop
 open-requires c κs = search needs
@@ -38,39 +37,36 @@ loop-holds c =
     let allowed = sym (opened-accepted _ _ opening) ∙ test in
     (ap (λ o. o .scanner) opening ∙ opened-fresh _ allowed, sets-out _ _ allowed)
 
-sub-feed : tie.Need-sub-feed Inv-loop μ-loop
-sub-feed c = omega arith
-
-part-feed-start : tie.Need-part-feed-start Inv-loop μ-loop
-part-feed-start c = omega arith
-
-part-feed-end : tie.Need-part-feed-end Inv-loop μ-loop
-part-feed-end c = omega arith
-
 feed-requires : tie.Need-feed-requires Inv-loop μ-loop
 feed-requires c κs = search needs
 
 -- a turn feeds what the job has left
-turned : (c : tie.After-struct-known Inv-loop μ-loop) →
-    let start = c .before .before .before .before .before .before .before .before .before .before in
-    let loop = c .before .before .before .before .loop in
-    Turned (start .args .window) (start .args .job .now) (loop .n) (loop .at) (c .before .feed .result)
+turned : (c : tie.After-feed Inv-loop μ-loop) →
+    let start = c .before .before .before .before .before .before .before .before in
+    let loop = c .before .before .loop in
+    Turned (start .args .window) (start .args .job .now) (loop .n) (loop .rest .now) (c .feed .result)
 turned c =
-    let loop = c .before .before .before .before .loop in
-    counts-one (loop .inv .1) (c .before .before .before .loop-test .taken) (c .before .feed .result)
-    (rw (loop .inv .0) at (c .before .feed .ensures))
+    let loop = c .before .before .loop in
+    counts-one (loop .inv .1) (omega (arith, c .before .loop-test .taken)) (c .feed .result)
+    (rw (loop .inv .0) at (c .feed .ensures))
 
-add-at : tie.Need-add-at Inv-loop μ-loop
-add-at c = omega (arith, turned c)
+sub-rest : tie.Need-sub-rest Inv-loop μ-loop
+sub-rest c = turned c .within
+
+part-rest-start : tie.Need-part-rest-start Inv-loop μ-loop
+part-rest-start c = turned c .within
+
+part-rest-end : tie.Need-part-rest-end Inv-loop μ-loop
+part-rest-end c = omega arith
 
 add-n : tie.Need-add-n Inv-loop μ-loop
-add-n c = omega arith
+add-n c = omega (arith, turned (c .before) .on .few)
 
 loop-less : tie.Need-loop-less Inv-loop μ-loop
-loop-less c = omega (arith, turned c)
+loop-less c = omega (arith, turned (c .before) .moves)
 
 loop-again : tie.Need-loop-again Inv-loop μ-loop
-loop-again c = (c .before .before .before .before .loop .inv .0, turned c .on)
+loop-again c = (c .before .before .before .loop .inv .0, turned (c .before) .on)
 
 returns-2 : tie.Need-returns-2 Inv-loop μ-loop
 returns-2 c = stops (c .before .loop .inv .1) (c .loop-test .left)
@@ -85,11 +81,10 @@ hirunvel-chunk-count-spec =
     accepted-requires
     returns
     loop-holds
-    sub-feed
-    part-feed-start
-    part-feed-end
     feed-requires
-    add-at
+    sub-rest
+    part-rest-start
+    part-rest-end
     add-n
     loop-less
     loop-again
