@@ -3,7 +3,7 @@ use Prim.Native.Nat.{_-_}
 use native.Mathlib.Omega.{arith}
 use mathlib.Core.Path.{refl}
 use lib.ListN.{length}
-use Rattle.chunker.specs.Run.{rest, Passed}
+use Rattle.chunker.specs.Run.{Passed}
 use Rattle.chunker.proofs.Underway.{byte-rises}
 use Rattle.chunker.proofs.scan.while_larger.Statement.{statement}
 use Rattle.chunker.proofs.scan.while_larger.Tie as tie
