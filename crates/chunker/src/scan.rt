@@ -236,8 +236,8 @@ fn by_blocks(run: Run, part: &[u8]) -> Run
     run
 }
 
-// Passes bytes that are each larger than all before it, up to the part's last. Where a block's largest byte is
-// its last, such bytes may follow, and a block of them has its largest at its end again.
+// Passes bytes that are each larger than the largest so far, except the part's last. They may follow a block
+// whose largest byte is its last, and a block of them would have its largest at its end again.
 fn while_larger(run: Run, part: &[u8]) -> Run
     requires { ⌜ Going run (now part) ⌝ }
     ensures { λ r. ⌜ Passed run r (now (part .entry)) ⌝ }

@@ -73,8 +73,8 @@ fn untouched(numbers: [u32; 4]) -> bool
 }
 
 // Moves the scanner on over a part; tells the bytes consumed, and 1 where a cut follows them.
-// Refused by grounds 1 and 2, with the scanner untouched and zeros told. Most feeds with a small window
-// start a chunk and end it: they go the shorter way, after a cut of which the scanner is as it was.
+// Refused by grounds 1 and 2, with the scanner untouched and zeros told. Fed once a chunk, a scanner is
+// fresh at each call: with a small window it goes a shorter way, and a cut leaves its numbers as they are.
 #[no_mangle]
 pub extern "C" fn hirunvel_scanner_feed(
     scanner: &mut [u32; 4],
@@ -101,7 +101,8 @@ pub extern "C" fn hirunvel_scanner_feed(
     result::of(refusal)
 }
 
-// The same for any scanner.
+// The same for any scanner. Two calls of it keep the compiler from inlining it, so that the shorter way
+// has none of its registers to save.
 fn feed_any(scanner: &mut [u32; 4], part: &[u8], fed: &mut [u64; 2]) -> u32
     ensures { λ r. ⌜ r ≡ scannerFed (now (scanner .entry)) (now (part .entry)) .refusal ⌝ }
     ensures { λ r. ⌜ now (scanner .exit) ≡ scannerFed (now (scanner .entry)) (now (part .entry)) .scanner ⌝ }

@@ -2,13 +2,13 @@
 use Prim.Native.Nat.{ℕ, _+_, _≤_, _<_}
 use native.Mathlib.Omega.{arith}
 use native.Mathlib.Nat.{zero-add}
-use mathlib.Core.Path.{_≡_, ap}
+use mathlib.Core.Path.{_≡_, ap, _∙_}
 use mathlib.Core.List.{List, _++_}
-use lib.ListN.{length, getD, drop, length-append}
+use lib.ListN.{length, getD, take, drop, length-append, length-take}
 use Rattle.store.specs.Contents.{chunkAt}
-use Rattle.store.specs.Filling.{written}
 use Rattle.rebuild.specs.Rebuilding.{rebuiltBytes}
-use Rattle.rebuild.proofs.Parts.{Left, all-left, part-written, none-left}
+use Rattle.rebuild.specs.Covered.{Covered}
+use Rattle.rebuild.proofs.Parts.{Left, all-left, part-over, none-left}
 use Rattle.rebuild.proofs.Recipes.{Counted, none-counted, one-counted, all-counted, one-rebuilt, none-rebuilt}
 
 -- the chunks of the numbers before place i are written, and those of the others are to follow from `at` on
@@ -27,19 +27,28 @@ module _ {pool directory recipe before now : List ℕ} {at i : ℕ} (u : Underwa
     next : rebuiltBytes pool directory (drop i recipe) ≡ chunk ++ rebuiltBytes pool directory (drop (i + 1) recipe)
     next = rw e (one-rebuilt pool directory recipe i h)
 
-    -- there is room for it
-    pub next-fits : at + length chunk ≤ length now
-    next-fits =
-        let l = u .left in
-        omega (arith, ap length next, length-append chunk (rebuiltBytes pool directory (drop (i + 1) recipe)))
+    -- its bytes and those of the others
+    lengths : length (rebuiltBytes pool directory (drop i recipe))
+        ≡ length chunk + length (rebuiltBytes pool directory (drop (i + 1) recipe))
+    lengths = ap length next ∙ length-append chunk (rebuiltBytes pool directory (drop (i + 1) recipe))
 
-    -- once it is written the others are left
-    pub one-written : (now′ : List ℕ) → now′ ≡ written now at chunk
+    -- it ends within the job
+    pub next-fits : at + length chunk ≤ length (rebuiltBytes pool directory recipe)
+    next-fits = omega (arith, lengths, u .counted .gives)
+
+    -- once it is written, with any bytes after it up to the job's end, the others are left
+    pub one-written : (now′ : List ℕ) → Covered now at (length (rebuiltBytes pool directory recipe)) chunk now′
         → Underway pool directory recipe before now′ (at + length chunk) (i + 1)
     one-written now′ w =
+        let rest = rebuiltBytes pool directory (drop (i + 1) recipe) in
+        let few : length chunk ≤ length (w .bytes) =
+        omega (arith, ap length (w .begins), length-take (length chunk) (w .bytes)) in
+        let left : Left before 0 (rebuiltBytes pool directory recipe) now at (take (length chunk) (w .bytes) ++ rest) =
+        rw (w .begins, ← next) (u .left) in
         record {
           counted = one-counted (u .counted) (length chunk) h (ap length e);
-          left = rw w (part-written chunk (rebuiltBytes pool directory (drop (i + 1) recipe)) (rw next at (u .left)));
+          left = rw (w .gives)
+              (part-over (w .bytes) rest (length chunk) few (omega (arith, lengths, u .counted .gives, w .within)) left);
         }
 
   -- with no number left all are written

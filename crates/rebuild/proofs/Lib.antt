@@ -5,3 +5,4 @@ pub mod FoundChunks
 pub mod ChunksWritten
 pub mod RebuildGround
 pub mod GivesBack
+pub mod Covering

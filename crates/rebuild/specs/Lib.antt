@@ -1,1 +1,2 @@
 pub mod Rebuilding
+pub mod Covered

@@ -25,7 +25,7 @@ fn all_below(chunks: ChunkNumber, recipe: &[u32]) -> bool
 }
 
 // The length of a rebuilt job, which 32 bits need not hold.
-fn rebuilt_length(pool: &[u8], directory: &[u32], recipe: &[u32]) -> u64
+pub fn rebuilt_length(pool: &[u8], directory: &[u32], recipe: &[u32]) -> u64
     requires { ⌜ length (now pool) ≤ 67108864 ⌝ }
     requires { ⌜ length (now recipe) ≤ 65535 ⌝ }
     requires { ⌜ Found (now pool) (now directory) (now recipe) ⌝ }

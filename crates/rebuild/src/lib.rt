@@ -1,10 +1,8 @@
 // Rebuilding: a recipe's chunks back as bytes.
 ghost use mathlib.Core.Path.{_≡_};
 ghost use mathlib.Core.List.{_++_};
-ghost use Prim.Native.Nat.{_+_, _*_, _≤_, _<_};
+ghost use Prim.Native.Nat.{_≤_};
 ghost use lib.ListN.{length, drop};
-ghost use Rattle.store.specs.Directory.{stride, offsetAt, lengthAt};
-ghost use Rattle.store.specs.Contents.{chunkAt};
 ghost use Rattle.rebuild.specs.Rebuilding.{rebuiltBytes, Found, rebuilt};
 
 mod copying;
@@ -39,40 +37,30 @@ pub fn rebuild(
             written: 0,
         };
     }
-    let written = write_chunks(pool, directory, recipe, output);
+    // Counted for ground 10 too, of which only the refusal is told.
+    let total = grounds::rebuilt_length(pool, directory, recipe);
+    write_chunks(pool, directory, recipe, output, total as usize);
     Rebuilt {
         refusal: Refusal::Accepted,
-        written: written as u64,
+        written: total,
     }
 }
 
-// The chunk of a number that has an entry in the directory and its bytes in the pool.
-fn chunk_of<'p, 'd>(pool: &'p [u8], directory: &'d [u32], number: u32) -> &'p [u8]
-    requires { ⌜ number * stride + 1 < length (now directory) ⌝ }
-    requires { ⌜ offsetAt (now directory) number + lengthAt (now directory) number ≤ length (now pool) ⌝ }
-    ensures { λ r. ⌜ now r ≡ chunkAt (now (pool .entry)) (now (directory .entry)) number ⌝ }
-{
-    let at = number as usize * 2;
-    let from = directory[at] as usize;
-    let to = from + directory[at + 1] as usize;
-    &pool[from..to]
-}
-
-// Writes a recipe's chunks to an output that has room for them, and tells how many bytes they are.
-fn write_chunks(pool: &[u8], directory: &[u32], recipe: &[u32], output: &mut [u8]) -> usize
+// Writes a recipe's chunks, `total` bytes in all, to an output that has room for them.
+fn write_chunks(pool: &[u8], directory: &[u32], recipe: &[u32], output: &mut [u8], total: usize)
     requires { ⌜ Found (now pool) (now directory) (now recipe) ⌝ }
-    requires { ⌜ length (rebuiltBytes (now pool) (now directory) (now recipe)) ≤ length (now output) ⌝ }
-    ensures { λ r. ⌜ r ≡ length (rebuiltBytes (now (pool .entry)) (now (directory .entry)) (now (recipe .entry))) ⌝ }
-    ensures { λ r. ⌜ now (output .exit) ≡ rebuiltBytes (now (pool .entry)) (now (directory .entry)) (now (recipe .entry)) ++ drop r (now (output .entry)) ⌝ }
+    requires { ⌜ total ≡ length (rebuiltBytes (now pool) (now directory) (now recipe)) ⌝ }
+    requires { ⌜ total ≤ length (now output) ⌝ }
+    ensures { λ _. ⌜ now (output .exit) ≡ rebuiltBytes (now (pool .entry)) (now (directory .entry)) (now (recipe .entry)) ++ drop total (now (output .entry)) ⌝ }
 {
     let mut at = 0;
     let mut i = 0;
     while i < recipe.len() {
-        let number = recipe[i];
-        let chunk = chunk_of(pool, directory, number);
-        staging::copy_staged(output, at, chunk);
-        at += chunk.len();
+        let entry = recipe[i] as usize * 2;
+        let from = directory[entry] as usize;
+        let size = directory[entry + 1] as usize;
+        staging::copy_chunk(output, at, total, pool, from, size);
+        at += size;
         i += 1;
     }
-    at
 }

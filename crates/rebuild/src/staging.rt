@@ -1,8 +1,9 @@
 // The staging buffer that each chunk passes through.
 ghost use mathlib.Core.Path.{_≡_};
 ghost use Prim.Native.Nat.{_+_, _≤_};
-ghost use lib.ListN.{length};
+ghost use lib.ListN.{length, take, drop};
 ghost use Rattle.store.specs.Filling.{written};
+ghost use Rattle.rebuild.specs.Covered.{Covered};
 use crate::copying;
 
 // Writes bytes to a place of the output, through a buffer that has room for them.
@@ -17,7 +18,7 @@ fn copy_part(staging: &mut [u8], output: &mut [u8], at: usize, part: &[u8])
 }
 
 // Writes a chunk to a place of the output, at most 256 bytes at a time.
-pub fn copy_staged(output: &mut [u8], at: usize, chunk: &[u8])
+fn copy_staged(output: &mut [u8], at: usize, chunk: &[u8])
     requires { ⌜ at + length (now chunk) ≤ length (now output) ⌝ }
     ensures { λ _. ⌜ now (output .exit) ≡ written (now (output .entry)) at (now (chunk .entry)) ⌝ }
 {
@@ -29,4 +30,36 @@ pub fn copy_staged(output: &mut [u8], at: usize, chunk: &[u8])
         from = to;
     }
     copy_part(&mut staging, output, at + from, &chunk[from..]);
+}
+
+// Writes 64 bytes of the pool to a place of the output.
+fn copy_64(output: &mut [u8], at: usize, pool: &[u8], from: usize)
+    requires { ⌜ at + 64 ≤ length (now output) ⌝ }
+    requires { ⌜ from + 64 ≤ length (now pool) ⌝ }
+    ensures { λ _. ⌜ now (output .exit) ≡ written (now (output .entry)) at (take 64 (drop from (now (pool .entry)))) ⌝ }
+{
+    let mut staging = [0u8; 256];
+    let to = from + 64;
+    copy_part(&mut staging, output, at, &pool[from..to]);
+}
+
+// Writes a chunk of the pool to a place of the output. Past the chunk it may write any bytes up to `end`, the
+// job's end: the chunks that follow are written over them. So a short chunk is 64 bytes that are moved at
+// once, and nothing depends on its length.
+pub fn copy_chunk(output: &mut [u8], at: usize, end: usize, pool: &[u8], from: usize, size: usize)
+    requires { ⌜ from + size ≤ length (now pool) ⌝ }
+    requires { ⌜ at + size ≤ end ⌝ }
+    requires { ⌜ end ≤ length (now output) ⌝ }
+    ensures { λ _. ⌜ Covered (now (output .entry)) at end (take size (drop from (now (pool .entry)))) (now (output .exit)) ⌝ }
+{
+    if size <= 64 {
+        if at + 64 <= end {
+            if from + 64 <= pool.len() {
+                copy_64(output, at, pool, from);
+                return;
+            }
+        }
+    }
+    let to = from + size;
+    copy_staged(output, at, &pool[from..to]);
 }

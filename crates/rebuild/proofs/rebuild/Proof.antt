@@ -5,7 +5,7 @@ use borrow.Author.Needs.{needs}
 use borrow.Author.Tests.{not-true, not-false}
 use Rattle.refusal.specs.Number.{accepted}
 use Rattle.rebuild.specs.Rebuilding.{rebuildGround, rebuilt}
-use Rattle.rebuild.proofs.RebuildGround.{rebuilding-found, output-long}
+use Rattle.rebuild.proofs.RebuildGround.{memory-small, rebuilding-found, output-long}
 use Rattle.rebuild.proofs.rebuild.Statement.{statement}
 use Rattle.rebuild.proofs.rebuild.Tie as tie
 
@@ -33,9 +33,16 @@ passed c =
     sym (ap accepted (c .before .before .of-rebuilding .ensures))
     ∙ (sym (c .before .accepted .ensures) ∙ not-false _ (c .if1 .left))
 
+rebuilt-length-requires : tie.Need-rebuilt-length-requires
+rebuilt-length-requires c κs =
+    let small = memory-small _ _ _ _ _ (passed c) in (small .0, (small .1, rebuilding-found _ _ _ _ _ (passed c)))
+
 write-chunks-requires : tie.Need-write-chunks-requires
 write-chunks-requires c κs =
-    (rebuilding-found _ _ _ _ _ (passed (c .before)), output-long _ _ _ _ _ (passed (c .before)))
+    let counted = c .before in (
+      rebuilding-found _ _ _ _ _ (passed (counted .before)),
+      (counted .rebuilt-length .ensures, rw (counted .rebuilt-length .ensures) (output-long _ _ _ _ _ (passed (counted .before)))),
+    )
 
 same-length-2 : tie.Need-same-length-2
 same-length-2 c = search needs
@@ -43,8 +50,9 @@ same-length-2 c = search needs
 returns-2 : tie.Need-returns-2
 unfolding rebuilt
 returns-2 c =
-    let all = c .before .before .write-chunks .ensures in
-    rw (passed (c .before .before .before .before), ← (all .0)) (refl, all .1)
+    let written = c .before .before in
+    let counted = written .before .before in
+    rw (passed (counted .before), ← (counted .rebuilt-length .ensures)) (refl, written .write-chunks .ensures)
 
 pub rebuild-spec : {M : Type 1} → statement M
 rebuild-spec =
@@ -54,6 +62,7 @@ rebuild-spec =
     accepted-requires
     same-length
     returns
+    rebuilt-length-requires
     write-chunks-requires
     same-length-2
     returns-2)

@@ -1,43 +1,85 @@
 -- `rebuild::write_chunks` meets its contract: each turn writes the chunk of one number.
-use Prim.Native.Nat.{_+_, _-_, _≤_}
+use Prim.Native.Nat.{_+_, _-_, _*_, _≤_, _<_}
 use native.Mathlib.Omega.{arith}
-use lib.ListN.{length}
+use mathlib.Core.Path.{refl}
+use lib.ListN.{length, getD}
+use Rattle.store.specs.Directory.{stride, lengthAt}
+use Rattle.rebuild.proofs.FoundChunks.{found-length}
 use Rattle.rebuild.proofs.ChunksWritten.{Underway, none-written, next-fits, one-written, all-written}
 use Rattle.rebuild.proofs.write_chunks.Statement.{statement}
 use Rattle.rebuild.proofs.write_chunks.Tie as tie
 
 abbrev Inv-loop : tie.InvT-loop
-Inv-loop pool directory recipe output₀ at₀ i₀ output at i = Underway pool directory recipe output₀ output at i
+Inv-loop pool directory recipe output₀ total at₀ i₀ output at i = Underway pool directory recipe output₀ output at i
 
 abbrev μ-loop : tie.MeasureT-loop
-μ-loop pool directory recipe output₀ at₀ i₀ output at i = length recipe - i
+μ-loop pool directory recipe output₀ total at₀ i₀ output at i = length recipe - i
 
 loop-holds : tie.Need-loop-holds Inv-loop μ-loop
-loop-holds c = none-written (c .before .before .before .before .pre .1)
+loop-holds c = let pre = c .before .before .before .before .pre in none-written (omega (arith, pre .1 .0, pre .1 .1))
 
-mul-number : tie.Need-mul-number Inv-loop μ-loop
-mul-number c = omega arith
+mul-entry : tie.Need-mul-entry Inv-loop μ-loop
+mul-entry c = omega arith
 
-shared-slice-read-number : tie.Need-shared-slice-read-number Inv-loop μ-loop
-shared-slice-read-number c = omega arith
+shared-slice-read-entry : tie.Need-shared-slice-read-entry Inv-loop μ-loop
+shared-slice-read-entry c = omega arith
 
-chunk-of-requires : tie.Need-chunk-of-requires Inv-loop μ-loop
-chunk-of-requires c κs =
-    let turn = c .before .before in
-    let found = turn .before .before .before .before .before .pre .0 in
-    (found .entered (turn .loop .i) (c .before .loop-test .taken), found .inside (turn .loop .i) (c .before .loop-test .taken))
+cast-entry : tie.Need-cast-entry Inv-loop μ-loop
+cast-entry c = omega (arith, c .shared-slice-known4 .given (c .before .before .loop .i))
 
--- there is room for the chunk
-fits : (c : tie.After-chunk-of Inv-loop μ-loop)
-    → c .before .before .before .loop .at + length (c .chunk-of .result .now) ≤ length (c .before .before .before .loop .output)
+-- the entry of the number stands in the directory
+entered : (c : tie.In-loop Inv-loop μ-loop) → let a = c .before .before .before .before .before .before .args in
+    getD (a .recipe .now) (c .before .loop .i) 0 * stride + 1 < length (a .directory .now)
+entered c = c .before .before .before .before .before .before .pre .0 .entered (c .before .loop .i) (c .loop-test .taken)
+
+mul-entry-2 : tie.Need-mul-entry-2 Inv-loop μ-loop
+mul-entry-2 c = omega (arith, entered (c .before))
+
+mul-from : tie.Need-mul-from Inv-loop μ-loop
+mul-from c = omega (arith, entered (c .before))
+
+shared-slice-read-from : tie.Need-shared-slice-read-from Inv-loop μ-loop
+shared-slice-read-from c = omega (arith, entered (c .before .before))
+
+cast-from : tie.Need-cast-from Inv-loop μ-loop
+cast-from c =
+    let turn = c .before .before .before in
+    let number = getD (turn .before .before .before .before .before .args .recipe .now) (turn .loop .i) 0 in
+    omega (arith, c .shared-slice-known5 .given (number * stride))
+
+add-size : tie.Need-add-size Inv-loop μ-loop
+add-size c = omega (arith, entered (c .before .before))
+
+mul-size : tie.Need-mul-size Inv-loop μ-loop
+mul-size c = omega (arith, entered (c .before .before))
+
+shared-slice-read-size : tie.Need-shared-slice-read-size Inv-loop μ-loop
+shared-slice-read-size c = entered (c .before .before .before)
+
+cast-size : tie.Need-cast-size Inv-loop μ-loop
+cast-size c =
+    let turn = c .before .before .before .before in
+    let number = getD (turn .before .before .before .before .before .args .recipe .now) (turn .loop .i) 0 in
+    omega (arith, c .shared-slice-known6 .given (number * stride + 1))
+
+-- the chunk ends within the job
+fits : (c : tie.In-loop Inv-loop μ-loop) → let a = c .before .before .before .before .before .before .args in
+    c .before .loop .at + lengthAt (a .directory .now) (getD (a .recipe .now) (c .before .loop .i) 0) ≤ a .total
 fits c =
-    next-fits (c .before .before .before .loop .inv) (c .before .before .loop-test .taken) _ (c .chunk-of .ensures)
+    let start = c .before .before .before .before .before .before in
+    let size = found-length (start .pre .0) (c .before .loop .i) (c .loop-test .taken) in
+    omega (arith, size, next-fits (c .before .loop .inv) (c .loop-test .taken) _ refl, start .pre .1 .0)
 
-copy-staged-requires : tie.Need-copy-staged-requires Inv-loop μ-loop
-copy-staged-requires c κs = fits (c .before)
+copy-chunk-requires : tie.Need-copy-chunk-requires Inv-loop μ-loop
+copy-chunk-requires c κs =
+    let turn = c .before .before .before .before in
+    let start = turn .before .before .before .before .before .before in (
+      start .pre .0 .inside (turn .before .loop .i) (turn .loop-test .taken),
+      (fits turn, omega (arith, start .pre .1 .1, turn .before .loop .inv .left .sameLength)),
+    )
 
 add-at : tie.Need-add-at Inv-loop μ-loop
-add-at c = omega (arith, fits (c .before .before .before .before))
+add-at c = omega (arith, fits (c .before .before .before .before .before .before .before))
 
 add-i : tie.Need-add-i Inv-loop μ-loop
 add-i c = omega arith
@@ -47,15 +89,20 @@ loop-less c = omega arith
 
 loop-again : tie.Need-loop-again Inv-loop μ-loop
 loop-again c =
-    let found = c .before .before .before .before in
-    one-written (found .before .before .before .loop .inv) (found .before .before .loop-test .taken) _
-    (found .chunk-of .ensures) _ (c .before .before .copy-staged .ensures)
+    let copied = c .before .before in
+    let turn = copied .before .before .before .before .before in
+    let start = turn .before .before .before .before .before .before in
+    rw (found-length (start .pre .0) (turn .before .loop .i) (turn .loop-test .taken))
+    (one-written (turn .before .loop .inv) (turn .loop-test .taken) _ refl _ (rw (start .pre .1 .0) at (copied .copy-chunk .ensures)))
 
 same-length : tie.Need-same-length Inv-loop μ-loop
 same-length c = c .before .loop .inv .left .sameLength
 
 returns : tie.Need-returns Inv-loop μ-loop
-returns c = all-written (c .before .loop .inv) (c .loop-test .left)
+returns c =
+    let all = all-written (c .before .loop .inv) (c .loop-test .left) in
+    let start = c .before .before .before .before .before .before in
+    rw (start .pre .1 .0, ← (all .0)) (all .1)
 
 pub write-chunks-spec : {M : Type 1} → statement M
 write-chunks-spec =
@@ -64,10 +111,18 @@ write-chunks-spec =
     Inv-loop
     μ-loop
     loop-holds
-    mul-number
-    shared-slice-read-number
-    chunk-of-requires
-    copy-staged-requires
+    mul-entry
+    shared-slice-read-entry
+    cast-entry
+    mul-entry-2
+    mul-from
+    shared-slice-read-from
+    cast-from
+    add-size
+    mul-size
+    shared-slice-read-size
+    cast-size
+    copy-chunk-requires
     add-at
     add-i
     loop-less
