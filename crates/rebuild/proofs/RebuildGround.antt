@@ -26,6 +26,10 @@ abbrev ofRebuilding : Bool → Bool → Bool → Bool → Refusal → Refusal
 ofRebuilding window store recipe fit later =
     cond window (cond store (cond recipe (cond fit later HeadMisfit) MemoryLimit) MemoryLimit) Window
 
+-- a ground that holds is not accepted, so nothing need be said of a length
+pub no-length : {r s : Refusal} {a b : ℕ} → r ≡ s → accepted s ≡ false → accepted r ≡ true → a ≡ b
+no-length e f t = cc
+
 -- ground 4 of the recipe and of the store is the same
 either : (store : Bool) → MemoryLimit ≡ cond store MemoryLimit MemoryLimit
 either true = refl
@@ -89,14 +93,6 @@ accepted-last true true false fit below room e = (cc, cc, cc)
 accepted-last true false recipe fit below room e = (cc, cc, cc)
 accepted-last false store recipe fit below room e = (cc, cc, cc)
 
--- the first tests that it passes
-accepted-first : (window store recipe : Bool) (fit : Bool) (later : Refusal)
-    → accepted (ofRebuilding window store recipe fit later) ≡ true → (store ≡ true) × (recipe ≡ true)
-accepted-first true true true fit later e = (refl, refl)
-accepted-first true true false fit later e = (refl, e)
-accepted-first true false recipe fit later e = (e, cc)
-accepted-first false store recipe fit later e = (cc, cc)
-
 module _ (head : Head) (pool directory recipe output : List ℕ) where
   -- ground 1 is tested first
   pub window-refused : windowAllowed (head .window) ≡ false → Window ≡ rebuildGround head pool directory recipe output
@@ -133,16 +129,6 @@ module _ (head : Head) (pool directory recipe output : List ℕ) where
     last-tests =
         accepted-last (windowAllowed (head .window)) (storeAllowed pool directory) (recipeAllowed recipe)
         (fits head pool directory) (allBelow (head .chunks .0) recipe) _ e
-
-    -- an accepted rebuilding is of memory within the limits
-    pub memory-small : (length pool ≤ 67108864) × (length recipe ≤ 65535)
-    unfolding rebuildGround storeAllowed recipeAllowed
-    memory-small =
-        let first = accepted-first (windowAllowed (head .window)) (storeAllowed pool directory) (recipeAllowed recipe)
-        (fits head pool directory) _ e in (
-          leb-true (length pool) 67108864 (and-eq-true-iff _ _ .0 (and-eq-true-iff _ _ .0 (first .0) .0) .0),
-          leb-true (length recipe) 65535 (first .1),
-        )
 
     -- an accepted rebuilding finds its numbers
     pub rebuilding-found : Found pool directory recipe

@@ -1,7 +1,9 @@
 // The grounds on which a rebuilding is turned away.
 ghost use mathlib.Core.Path.{_≡_};
+ghost use mathlib.Core.Bool.{true};
 ghost use Prim.Native.Nat.{_≤_};
 ghost use lib.ListN.{length};
+ghost use Rattle.refusal.specs.Number.{accepted};
 ghost use Rattle.rebuild.specs.Rebuilding.{rebuiltBytes, Found, allBelow, rebuildGround};
 use refusal::Refusal;
 use store::ChunkNumber;
@@ -25,7 +27,7 @@ fn all_below(chunks: ChunkNumber, recipe: &[u32]) -> bool
 }
 
 // The length of a rebuilt job, which 32 bits need not hold.
-pub fn rebuilt_length(pool: &[u8], directory: &[u32], recipe: &[u32]) -> u64
+fn rebuilt_length(pool: &[u8], directory: &[u32], recipe: &[u32]) -> u64
     requires { ⌜ length (now pool) ≤ 67108864 ⌝ }
     requires { ⌜ length (now recipe) ≤ 65535 ⌝ }
     requires { ⌜ Found (now pool) (now directory) (now recipe) ⌝ }
@@ -42,6 +44,20 @@ pub fn rebuilt_length(pool: &[u8], directory: &[u32], recipe: &[u32]) -> u64
     total
 }
 
+// The refusal of a rebuilding, and where there is none the rebuilt job's length.
+pub struct Tested {
+    pub refusal: Refusal,
+    pub total: u64,
+}
+
+// A ground that holds, with no length.
+fn refused(refusal: Refusal) -> Tested
+    ensures { λ r. ⌜ r .refusal ≡ refusal ⌝ }
+    ensures { λ r. ⌜ r .total ≡ 0 ⌝ }
+{
+    Tested { refusal, total: 0 }
+}
+
 // The first of the grounds 1, 4, 5, 9 and 10 that holds. A recipe over its limit is ground 4, so it
 // is tested before ground 5.
 pub fn of_rebuilding(
@@ -50,26 +66,31 @@ pub fn of_rebuilding(
     directory: &[u32],
     recipe: &[u32],
     output: &[u8],
-) -> Refusal
-    ensures { λ r. ⌜ r ≡ rebuildGround head (now (pool .entry)) (now (directory .entry)) (now (recipe .entry)) (now (output .entry)) ⌝ }
+) -> Tested
+    ensures { λ r. ⌜ r .refusal ≡ rebuildGround head (now (pool .entry)) (now (directory .entry)) (now (recipe .entry)) (now (output .entry)) ⌝ }
+    ensures { λ r. ⌜ (accepted (r .refusal) ≡ true → r .total ≡ length (rebuiltBytes (now (pool .entry)) (now (directory .entry)) (now (recipe .entry)))) ⌝ }
 {
     let scanner = chunker::open(head.window);
     let refusal = scanner.refusal;
     if !refusal::accepted(refusal) {
-        return refusal;
+        return refused(refusal);
     }
     if 65535 < recipe.len() {
-        return Refusal::MemoryLimit;
+        return refused(Refusal::MemoryLimit);
     }
     let ground = store::refusal_of(head, pool, directory);
     if !refusal::accepted(ground) {
-        return ground;
+        return refused(ground);
     }
     if !all_below(head.chunks, recipe) {
-        return Refusal::ChunkNumber;
+        return refused(Refusal::ChunkNumber);
     }
-    if (output.len() as u64) < rebuilt_length(pool, directory, recipe) {
-        return Refusal::OutputShort;
+    let total = rebuilt_length(pool, directory, recipe);
+    if (output.len() as u64) < total {
+        return refused(Refusal::OutputShort);
     }
-    Refusal::Accepted
+    Tested {
+        refusal: Refusal::Accepted,
+        total,
+    }
 }

@@ -30,19 +30,18 @@ pub fn rebuild(
     ensures { λ r. ⌜ r ≡ rebuilt head (now (pool .entry)) (now (directory .entry)) (now (recipe .entry)) (now (output .entry)) .answer ⌝ }
     ensures { λ r. ⌜ now (output .exit) ≡ rebuilt head (now (pool .entry)) (now (directory .entry)) (now (recipe .entry)) (now (output .entry)) .output ⌝ }
 {
-    let refusal = grounds::of_rebuilding(head, pool, directory, recipe, output);
+    let tested = grounds::of_rebuilding(head, pool, directory, recipe, output);
+    let refusal = tested.refusal;
     if !refusal::accepted(refusal) {
         return Rebuilt {
             refusal,
             written: 0,
         };
     }
-    // Counted for ground 10 too, of which only the refusal is told.
-    let total = grounds::rebuilt_length(pool, directory, recipe);
-    write_chunks(pool, directory, recipe, output, total as usize);
+    write_chunks(pool, directory, recipe, output, tested.total as usize);
     Rebuilt {
         refusal: Refusal::Accepted,
-        written: total,
+        written: tested.total,
     }
 }
 

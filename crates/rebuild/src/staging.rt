@@ -43,9 +43,19 @@ fn copy_64(output: &mut [u8], at: usize, pool: &[u8], from: usize)
     copy_part(&mut staging, output, at, &pool[from..to]);
 }
 
+// Writes 128 bytes of the pool to a place of the output.
+fn copy_128(output: &mut [u8], at: usize, pool: &[u8], from: usize)
+    requires { ⌜ at + 128 ≤ length (now output) ⌝ }
+    requires { ⌜ from + 128 ≤ length (now pool) ⌝ }
+    ensures { λ _. ⌜ now (output .exit) ≡ written (now (output .entry)) at (take 128 (drop from (now (pool .entry)))) ⌝ }
+{
+    copy_64(output, at, pool, from);
+    copy_64(output, at + 64, pool, from + 64);
+}
+
 // Writes a chunk of the pool to a place of the output. Past the chunk it may write any bytes up to `end`, the
-// job's end: the chunks that follow are written over them. So a short chunk is 64 bytes that are moved at
-// once, and nothing depends on its length.
+// job's end: the chunks that follow are written over them. So for a short chunk 64 or 128 bytes are moved at
+// once, and little depends on its length.
 pub fn copy_chunk(output: &mut [u8], at: usize, end: usize, pool: &[u8], from: usize, size: usize)
     requires { ⌜ from + size ≤ length (now pool) ⌝ }
     requires { ⌜ at + size ≤ end ⌝ }
@@ -56,6 +66,14 @@ pub fn copy_chunk(output: &mut [u8], at: usize, end: usize, pool: &[u8], from: u
         if at + 64 <= end {
             if from + 64 <= pool.len() {
                 copy_64(output, at, pool, from);
+                return;
+            }
+        }
+    }
+    if size <= 128 {
+        if at + 128 <= end {
+            if from + 128 <= pool.len() {
+                copy_128(output, at, pool, from);
                 return;
             }
         }

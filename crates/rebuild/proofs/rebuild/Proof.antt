@@ -3,9 +3,10 @@ use mathlib.Core.Path.{_≡_, refl, ap, sym, _∙_}
 use mathlib.Core.Bool.{true}
 use borrow.Author.Needs.{needs}
 use borrow.Author.Tests.{not-true, not-false}
+use lib.ListN.{length}
 use Rattle.refusal.specs.Number.{accepted}
-use Rattle.rebuild.specs.Rebuilding.{rebuildGround, rebuilt}
-use Rattle.rebuild.proofs.RebuildGround.{memory-small, rebuilding-found, output-long}
+use Rattle.rebuild.specs.Rebuilding.{rebuiltBytes, rebuildGround, rebuilt}
+use Rattle.rebuild.proofs.RebuildGround.{rebuilding-found, output-long}
 use Rattle.rebuild.proofs.rebuild.Statement.{statement}
 use Rattle.rebuild.proofs.rebuild.Tie as tie
 
@@ -21,7 +22,7 @@ same-length c = search needs
 returns : tie.Need-returns
 unfolding rebuilt
 returns c =
-    let ground = c .before .before .of-rebuilding .ensures in
+    let ground = c .before .before .of-rebuilding .ensures .0 in
     let refused = sym (ap accepted ground) ∙ (sym (c .before .accepted .ensures) ∙ not-true _ (c .if1 .taken)) in
     rw (ground, refused) (refl, refl)
 
@@ -30,19 +31,19 @@ passed : (c : tie.Else1)
     → let a = c .before .before .before .before .before .before .before .before .args in
     accepted (rebuildGround (a .head) (a .pool .now) (a .directory .now) (a .recipe .now) (a .output .now)) ≡ true
 passed c =
-    sym (ap accepted (c .before .before .of-rebuilding .ensures))
+    sym (ap accepted (c .before .before .of-rebuilding .ensures .0))
     ∙ (sym (c .before .accepted .ensures) ∙ not-false _ (c .if1 .left))
 
-rebuilt-length-requires : tie.Need-rebuilt-length-requires
-rebuilt-length-requires c κs =
-    let small = memory-small _ _ _ _ _ (passed c) in (small .0, (small .1, rebuilding-found _ _ _ _ _ (passed c)))
+-- the length that was counted for ground 10
+total : (c : tie.Else1)
+    → let a = c .before .before .before .before .before .before .before .before .args in
+    c .before .before .of-rebuilding .result .total ≡ length (rebuiltBytes (a .pool .now) (a .directory .now) (a .recipe .now))
+total c = c .before .before .of-rebuilding .ensures .1 (sym (c .before .accepted .ensures) ∙ not-false _ (c .if1 .left))
 
 write-chunks-requires : tie.Need-write-chunks-requires
 write-chunks-requires c κs =
-    let counted = c .before in (
-      rebuilding-found _ _ _ _ _ (passed (counted .before)),
-      (counted .rebuilt-length .ensures, rw (counted .rebuilt-length .ensures) (output-long _ _ _ _ _ (passed (counted .before)))),
-    )
+    let e = passed (c .before) in
+    (rebuilding-found _ _ _ _ _ e, (total (c .before), rw (total (c .before)) (output-long _ _ _ _ _ e)))
 
 same-length-2 : tie.Need-same-length-2
 same-length-2 c = search needs
@@ -51,8 +52,8 @@ returns-2 : tie.Need-returns-2
 unfolding rebuilt
 returns-2 c =
     let written = c .before .before in
-    let counted = written .before .before in
-    rw (passed (counted .before), ← (counted .rebuilt-length .ensures)) (refl, written .write-chunks .ensures)
+    let tested = written .before .before in
+    rw (passed tested, ← (total tested)) (refl, written .write-chunks .ensures)
 
 pub rebuild-spec : {M : Type 1} → statement M
 rebuild-spec =
@@ -62,7 +63,6 @@ rebuild-spec =
     accepted-requires
     same-length
     returns
-    rebuilt-length-requires
     write-chunks-requires
     same-length-2
     returns-2)

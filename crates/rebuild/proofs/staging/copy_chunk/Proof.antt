@@ -29,8 +29,27 @@ returns c =
     let start = then .before .before .before .before .before in
     stretch-covers (start .args .pool .now) (start .args .from) (start .args .size) 64 (then .before .before .if1 .taken) (then .if3 .taken) (then .before .if2 .taken) (copied .copy-64 .ensures)
 
+add-if5 : tie.Need-add-if5
+add-if5 c = omega (arith, c .before .before .before .before .pre)
+
+add-if6 : tie.Need-add-if6
+add-if6 c = omega (arith, c .before .before .before .before .before .pre)
+
+copy-128-requires : tie.Need-copy-128-requires
+copy-128-requires c κs = omega (arith, c .before .before .before .before .before .before .before .pre)
+
+same-length-2 : tie.Need-same-length-2
+same-length-2 c = omega arith
+
+returns-2 : tie.Need-returns-2
+returns-2 c =
+    let copied = c .before .before in
+    let then = copied .before .before in
+    let start = then .before .before .before .before .before .before in
+    stretch-covers (start .args .pool .now) (start .args .from) (start .args .size) 128 (then .before .before .if4 .taken) (then .if6 .taken) (then .before .if5 .taken) (copied .copy-128 .ensures)
+
 add-to : tie.Need-add-to
-add-to c = omega (arith, c .before .before .before .pre)
+add-to c = omega (arith, c .before .before .before .before .pre)
 
 sub-copy-staged : tie.Need-sub-copy-staged
 sub-copy-staged c = omega arith
@@ -39,21 +58,21 @@ part-copy-staged-start : tie.Need-part-copy-staged-start
 part-copy-staged-start c = omega arith
 
 part-copy-staged-end : tie.Need-part-copy-staged-end
-part-copy-staged-end c = c .before .before .before .before .pre .0
+part-copy-staged-end c = c .before .before .before .before .before .pre .0
 
 copy-staged-requires : tie.Need-copy-staged-requires
 copy-staged-requires c κs =
-    let start = c .before .before .before .before .before in
+    let start = c .before .before .before .before .before .before in
     let long = stretch-length (start .args .pool .now) (start .args .from) (start .args .size) (start .pre .0) in
     rw (exact start, long) (omega (arith, start .pre .1))
 
-same-length-2 : tie.Need-same-length-2
-same-length-2 c = omega arith
+same-length-3 : tie.Need-same-length-3
+same-length-3 c = omega arith
 
-returns-2 : tie.Need-returns-2
-returns-2 c =
+returns-3 : tie.Need-returns-3
+returns-3 c =
     let copied = c .before .before in
-    let start = copied .before .before .before .before .before .before in
+    let start = copied .before .before .before .before .before .before .before in
     stretch-covers (start .args .pool .now) (start .args .from) (start .args .size) (start .args .size) (omega arith) (start .pre .0) (start .pre .1 .0)
     (rw (exact start) at (copied .copy-staged .ensures))
 
@@ -66,10 +85,15 @@ copy-chunk-spec =
     copy-64-requires
     same-length
     returns
+    add-if5
+    add-if6
+    copy-128-requires
+    same-length-2
+    returns-2
     add-to
     sub-copy-staged
     part-copy-staged-start
     part-copy-staged-end
     copy-staged-requires
-    same-length-2
-    returns-2)
+    same-length-3
+    returns-3)
