@@ -36,8 +36,8 @@ fn rebuilt_length(pool: &[u8], directory: &[u32], recipe: &[u32]) -> u64
     let mut total: u64 = 0;
     let mut i = 0;
     while i < recipe.len() {
-        let number = recipe[i];
-        let at = number as usize * 2 + 1;
+        let number = ChunkNumber(recipe[i]);
+        let at = number.0 as usize * 2 + 1;
         total += directory[at] as u64;
         i += 1;
     }

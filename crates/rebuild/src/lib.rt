@@ -10,7 +10,9 @@ mod grounds;
 mod staging;
 
 use refusal::Refusal;
+use store::ChunkNumber;
 use store::Head;
+use store::PoolOffset;
 
 // How many bytes were written, 0 when refused.
 pub struct Rebuilt {
@@ -55,8 +57,9 @@ fn write_chunks(pool: &[u8], directory: &[u32], recipe: &[u32], output: &mut [u8
     let mut at = 0;
     let mut i = 0;
     while i < recipe.len() {
-        let entry = recipe[i] as usize * 2;
-        let from = directory[entry] as usize;
+        let number = ChunkNumber(recipe[i]);
+        let entry = number.0 as usize * 2;
+        let from = PoolOffset(directory[entry]);
         let size = directory[entry + 1] as usize;
         staging::copy_chunk(output, at, total, pool, from, size);
         at += size;

@@ -5,6 +5,7 @@ ghost use lib.ListN.{length, take, drop};
 ghost use Rattle.store.specs.Filling.{written};
 ghost use Rattle.rebuild.specs.Covered.{Covered};
 use crate::copying;
+use store::PoolOffset;
 
 // Writes bytes to a place of the output, through a buffer that has room for them.
 fn copy_part(staging: &mut [u8], output: &mut [u8], at: usize, part: &[u8])
@@ -56,12 +57,20 @@ fn copy_128(output: &mut [u8], at: usize, pool: &[u8], from: usize)
 // Writes a chunk of the pool to a place of the output. Past the chunk it may write any bytes up to `end`, the
 // job's end: the chunks that follow are written over them. So for a short chunk 64 or 128 bytes are moved at
 // once, and little depends on its length.
-pub fn copy_chunk(output: &mut [u8], at: usize, end: usize, pool: &[u8], from: usize, size: usize)
-    requires { ⌜ from + size ≤ length (now pool) ⌝ }
+pub fn copy_chunk(
+    output: &mut [u8],
+    at: usize,
+    end: usize,
+    pool: &[u8],
+    offset: PoolOffset,
+    size: usize,
+)
+    requires { ⌜ offset .0 + size ≤ length (now pool) ⌝ }
     requires { ⌜ at + size ≤ end ⌝ }
     requires { ⌜ end ≤ length (now output) ⌝ }
-    ensures { λ _. ⌜ Covered (now (output .entry)) at end (take size (drop from (now (pool .entry)))) (now (output .exit)) ⌝ }
+    ensures { λ _. ⌜ Covered (now (output .entry)) at end (take size (drop (offset .0) (now (pool .entry)))) (now (output .exit)) ⌝ }
 {
+    let from = offset.0 as usize;
     if size <= 64 {
         if at + 64 <= end {
             if from + 64 <= pool.len() {

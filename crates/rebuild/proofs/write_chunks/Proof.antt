@@ -18,47 +18,41 @@ abbrev μ-loop : tie.MeasureT-loop
 loop-holds : tie.Need-loop-holds Inv-loop μ-loop
 loop-holds c = let pre = c .before .before .before .before .pre in none-written (omega (arith, pre .1 .0, pre .1 .1))
 
-mul-entry : tie.Need-mul-entry Inv-loop μ-loop
-mul-entry c = omega arith
+mul-size : tie.Need-mul-size Inv-loop μ-loop
+mul-size c = omega arith
 
-shared-slice-read-entry : tie.Need-shared-slice-read-entry Inv-loop μ-loop
-shared-slice-read-entry c = omega arith
+shared-slice-read-size : tie.Need-shared-slice-read-size Inv-loop μ-loop
+shared-slice-read-size c = omega arith
 
 cast-entry : tie.Need-cast-entry Inv-loop μ-loop
-cast-entry c = omega (arith, c .shared-slice-known4 .given (c .before .before .loop .i))
+cast-entry c = omega (arith, c .before .shared-slice-known4 .given (c .before .before .before .loop .i))
 
 -- the entry of the number stands in the directory
 entered : (c : tie.In-loop Inv-loop μ-loop) → let a = c .before .before .before .before .before .before .args in
     getD (a .recipe .now) (c .before .loop .i) 0 * stride + 1 < length (a .directory .now)
 entered c = c .before .before .before .before .before .before .pre .0 .entered (c .before .loop .i) (c .loop-test .taken)
 
-mul-entry-2 : tie.Need-mul-entry-2 Inv-loop μ-loop
-mul-entry-2 c = omega (arith, entered (c .before))
+mul-entry : tie.Need-mul-entry Inv-loop μ-loop
+mul-entry c = omega (arith, entered (c .before .before))
 
-mul-from : tie.Need-mul-from Inv-loop μ-loop
-mul-from c = omega (arith, entered (c .before))
+mul-size-2 : tie.Need-mul-size-2 Inv-loop μ-loop
+mul-size-2 c = omega (arith, entered (c .before .before))
 
-shared-slice-read-from : tie.Need-shared-slice-read-from Inv-loop μ-loop
-shared-slice-read-from c = omega (arith, entered (c .before .before))
-
-cast-from : tie.Need-cast-from Inv-loop μ-loop
-cast-from c =
-    let turn = c .before .before .before in
-    let number = getD (turn .before .before .before .before .before .args .recipe .now) (turn .loop .i) 0 in
-    omega (arith, c .shared-slice-known5 .given (number * stride))
+shared-slice-read-size-2 : tie.Need-shared-slice-read-size-2 Inv-loop μ-loop
+shared-slice-read-size-2 c = omega (arith, entered (c .before .before .before))
 
 add-size : tie.Need-add-size Inv-loop μ-loop
-add-size c = omega (arith, entered (c .before .before))
+add-size c = omega (arith, entered (c .before .before .before))
 
-mul-size : tie.Need-mul-size Inv-loop μ-loop
-mul-size c = omega (arith, entered (c .before .before))
+mul-size-3 : tie.Need-mul-size-3 Inv-loop μ-loop
+mul-size-3 c = omega (arith, entered (c .before .before .before))
 
-shared-slice-read-size : tie.Need-shared-slice-read-size Inv-loop μ-loop
-shared-slice-read-size c = entered (c .before .before .before)
+shared-slice-read-size-3 : tie.Need-shared-slice-read-size-3 Inv-loop μ-loop
+shared-slice-read-size-3 c = entered (c .before .before .before .before)
 
 cast-size : tie.Need-cast-size Inv-loop μ-loop
 cast-size c =
-    let turn = c .before .before .before .before in
+    let turn = c .before .before .before .before .before in
     let number = getD (turn .before .before .before .before .before .args .recipe .now) (turn .loop .i) 0 in
     omega (arith, c .shared-slice-known6 .given (number * stride + 1))
 
@@ -72,14 +66,14 @@ fits c =
 
 copy-chunk-requires : tie.Need-copy-chunk-requires Inv-loop μ-loop
 copy-chunk-requires c κs =
-    let turn = c .before .before .before .before in
+    let turn = c .before .before .before .before .before in
     let start = turn .before .before .before .before .before .before in (
       start .pre .0 .inside (turn .before .loop .i) (turn .loop-test .taken),
       (fits turn, omega (arith, start .pre .1 .1, turn .before .loop .inv .left .sameLength)),
     )
 
 add-at : tie.Need-add-at Inv-loop μ-loop
-add-at c = omega (arith, fits (c .before .before .before .before .before .before .before))
+add-at c = omega (arith, fits (c .before .before .before .before .before .before .before .before))
 
 add-i : tie.Need-add-i Inv-loop μ-loop
 add-i c = omega arith
@@ -90,7 +84,7 @@ loop-less c = omega arith
 loop-again : tie.Need-loop-again Inv-loop μ-loop
 loop-again c =
     let copied = c .before .before in
-    let turn = copied .before .before .before .before .before in
+    let turn = copied .before .before .before .before .before .before in
     let start = turn .before .before .before .before .before .before in
     rw (found-length (start .pre .0) (turn .before .loop .i) (turn .loop-test .taken))
     (one-written (turn .before .loop .inv) (turn .loop-test .taken) _ refl _ (rw (start .pre .1 .0) at (copied .copy-chunk .ensures)))
@@ -111,16 +105,15 @@ write-chunks-spec =
     Inv-loop
     μ-loop
     loop-holds
-    mul-entry
-    shared-slice-read-entry
-    cast-entry
-    mul-entry-2
-    mul-from
-    shared-slice-read-from
-    cast-from
-    add-size
     mul-size
     shared-slice-read-size
+    cast-entry
+    mul-entry
+    mul-size-2
+    shared-slice-read-size-2
+    add-size
+    mul-size-3
+    shared-slice-read-size-3
     cast-size
     copy-chunk-requires
     add-at

@@ -17,54 +17,55 @@ abbrev μ-loop : tie.MeasureT-loop
 loop-holds : tie.Need-loop-holds Inv-loop μ-loop
 loop-holds c = none-counted
 
-mul-number : tie.Need-mul-number Inv-loop μ-loop
-mul-number c = omega arith
-
-shared-slice-read-number : tie.Need-shared-slice-read-number Inv-loop μ-loop
-shared-slice-read-number c = omega arith
-
-cast-at : tie.Need-cast-at Inv-loop μ-loop
-cast-at c = omega (arith, c .shared-slice-known .given (c .before .before .loop .i))
-
--- the entry of the number stands in the directory
-entered : (c : tie.After-shared-slice-known Inv-loop μ-loop)
-    → let turn = c .before .before in
-    let args = turn .before .args in getD (args .recipe .now) (turn .loop .i) 0 * stride + 1 < length (args .directory .now)
-entered c = c .before .before .before .pre .1 .1 .entered (c .before .before .loop .i) (c .before .loop-test .taken)
-
-mul-at : tie.Need-mul-at Inv-loop μ-loop
-mul-at c = omega (arith, entered c)
-
-add-at : tie.Need-add-at Inv-loop μ-loop
-add-at c = omega (arith, entered c)
-
 mul-total : tie.Need-mul-total Inv-loop μ-loop
-mul-total c = omega (arith, entered c)
+mul-total c = omega arith
 
 shared-slice-read-total : tie.Need-shared-slice-read-total Inv-loop μ-loop
-shared-slice-read-total c = entered (c .before)
+shared-slice-read-total c = omega arith
+
+cast-at : tie.Need-cast-at Inv-loop μ-loop
+cast-at c = omega (arith, c .before .shared-slice-known .given (c .before .before .before .loop .i))
+
+-- the entry of the number stands in the directory
+entered : (c : tie.In-loop Inv-loop μ-loop)
+    → let args = c .before .before .args in
+    getD (args .recipe .now) (c .before .loop .i) 0 * stride + 1 < length (args .directory .now)
+entered c = c .before .before .pre .1 .1 .entered (c .before .loop .i) (c .loop-test .taken)
+
+mul-at : tie.Need-mul-at Inv-loop μ-loop
+mul-at c = omega (arith, entered (c .before .before))
+
+add-at : tie.Need-add-at Inv-loop μ-loop
+add-at c = omega (arith, entered (c .before .before))
+
+mul-total-2 : tie.Need-mul-total-2 Inv-loop μ-loop
+mul-total-2 c = omega (arith, entered (c .before .before))
+
+shared-slice-read-total-2 : tie.Need-shared-slice-read-total-2 Inv-loop μ-loop
+shared-slice-read-total-2 c = entered (c .before .before .before)
 
 -- the bytes of one more number
-counted : (c : tie.After-shared-slice-known Inv-loop μ-loop)
-    → let turn = c .before .before in
+counted : (c : tie.In-loop Inv-loop μ-loop)
+    → let turn = c .before in
     let args = turn .before .args in
     Counted (args .pool .now) (args .directory .now) (args .recipe .now) (turn .loop .i + 1)
     (turn .loop .total + lengthAt (args .directory .now) (getD (args .recipe .now) (turn .loop .i) 0))
 counted c =
-    let turn = c .before .before in
-    let more = c .before .loop-test .taken in
+    let turn = c .before in
+    let more = c .loop-test .taken in
     one-counted (turn .loop .inv) _ more (found-length (turn .before .pre .1 .1) (turn .loop .i) more)
 
 cast-total : tie.Need-cast-total Inv-loop μ-loop
 cast-total c =
-    let turn = c .before .before .before in
+    let turn = c .before .before .before .before in
     let number = getD (turn .before .args .recipe .now) (turn .loop .i) 0 in
     omega (arith, c .shared-slice-known2 .given (number * stride + 1))
 
 add-total : tie.Need-add-total Inv-loop μ-loop
 add-total c =
-    let pre = c .before .before .before .before .pre in
-    omega (arith, counted-small (counted (c .before)) (pre .0) (pre .1 .0))
+    let turn = c .before .before .before in
+    let pre = turn .before .before .pre in
+    omega (arith, counted-small (counted turn) (pre .0) (pre .1 .0))
 
 add-i : tie.Need-add-i Inv-loop μ-loop
 add-i c = omega arith
@@ -73,7 +74,7 @@ loop-less : tie.Need-loop-less Inv-loop μ-loop
 loop-less c = omega arith
 
 loop-again : tie.Need-loop-again Inv-loop μ-loop
-loop-again c = counted (c .before)
+loop-again c = counted (c .before .before .before)
 
 returns : tie.Need-returns Inv-loop μ-loop
 returns c = all-counted (c .before .loop .inv) (c .loop-test .left)
@@ -85,13 +86,13 @@ rebuilt-length-spec =
     Inv-loop
     μ-loop
     loop-holds
-    mul-number
-    shared-slice-read-number
+    mul-total
+    shared-slice-read-total
     cast-at
     mul-at
     add-at
-    mul-total
-    shared-slice-read-total
+    mul-total-2
+    shared-slice-read-total-2
     cast-total
     add-total
     add-i
