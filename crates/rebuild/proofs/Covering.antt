@@ -6,8 +6,8 @@ use mathlib.Core.List.{List, _++_}
 use lib.ListN.{length, take, drop, length-take, length-drop}
 use lib.Seq.{take-take, take-add, drop-drop}
 use Rattle.store.specs.Filling.{written}
+use Rattle.store.proofs.Copying.{written-twice}
 use Rattle.rebuild.specs.Covered.{Covered}
-use Rattle.rebuild.proofs.Parts.{written-twice}
 
 module _ (pool : List ℕ) (from : ℕ) where
   -- a stretch of the pool has its length

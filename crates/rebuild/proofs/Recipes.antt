@@ -15,11 +15,11 @@ use Rattle.store.specs.Contents.{chunkAt}
 use Rattle.rebuild.specs.Rebuilding.{rebuiltBytes, allBelow}
 
 -- `below` tells whether the numbers before place i passed, those from it on are still to test, and the answer is both
-pub record Tested (chunks : ℕ) (recipe : List ℕ) (below : Bool) (i : ℕ) : Type 0 where
+pub record Compared (chunks : ℕ) (recipe : List ℕ) (below : Bool) (i : ℕ) : Type 0 where
   pub order : i ≤ length recipe
   pub gives : (below && allBelow chunks (drop i recipe)) ≡ allBelow chunks recipe
 
-module _ {chunks : ℕ} {recipe : List ℕ} {below : Bool} {i : ℕ} (t : Tested chunks recipe below i) where
+module _ {chunks : ℕ} {recipe : List ℕ} {below : Bool} {i : ℕ} (t : Compared chunks recipe below i) where
   module _ (h : i < length recipe) where
     -- the number at place i is tested, then those after it
     by-next : (below && (ltb (getD recipe i 0) chunks && allBelow chunks (drop (i + 1) recipe))) ≡ allBelow chunks recipe
@@ -27,11 +27,11 @@ module _ {chunks : ℕ} {recipe : List ℕ} {below : Bool} {i : ℕ} (t : Tested
     by-next = (rw (drop-cons recipe i 0 h, add-one i)) ∙ t .gives
 
     -- one that is not below refuses the recipe
-    pub one-not-below : chunks ≤ getD recipe i 0 → Tested chunks recipe false (i + 1)
+    pub one-not-below : chunks ≤ getD recipe i 0 → Compared chunks recipe false (i + 1)
     one-not-below l = record { order = omega arith; gives = sym (and-false below) ∙ rw (le-ltb _ _ l) at by-next }
 
     -- one that is leaves the others
-    pub one-below : getD recipe i 0 < chunks → Tested chunks recipe below (i + 1)
+    pub one-below : getD recipe i 0 < chunks → Compared chunks recipe below (i + 1)
     one-below l = record { order = omega arith; gives = rw (lt-ltb _ _ l) at by-next }
 
   -- with no number left the answer is there

@@ -5,7 +5,8 @@ use mathlib.Core.List.{List}
 use lib.ListN.{length, take}
 use Rattle.store.specs.Filling.{written}
 
--- bytes that begin with the chunk and go no further than `end` are written at a place
+-- "written to the output one after another", so that what stands after a chunk is written over: bytes that begin with the
+-- chunk and go no further than `end` are written at a place
 pub record Covered (before : List ℕ) (at end : ℕ) (chunk after : List ℕ) : Type 0 where
   pub bytes : List ℕ
   pub begins : take (length chunk) bytes ≡ chunk

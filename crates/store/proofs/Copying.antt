@@ -4,8 +4,8 @@ use native.Mathlib.Omega.{arith}
 use native.Mathlib.Numerals.{add-one}
 use mathlib.Core.Path.{_≡_, refl, sym, ap, _∙_}
 use mathlib.Core.List.{List, _++_, append-assoc, append-nil}
-use lib.ListN.{length, take, drop, getD, set, length-take, length-drop, length-set, drop-of-length-le}
-use lib.Seq.{paste, paste-zero, paste-suc, length-paste-head, length-paste, drop-paste, take-length, take-add, take-take, take-append-le, take-append-add, drop-drop, length-take-le}
+use lib.ListN.{length, take, drop, getD, set, length-append, length-take, length-drop, length-set, drop-of-length-le}
+use lib.Seq.{paste, paste-zero, paste-suc, length-paste, take-length, take-add, take-take, take-append-le, take-append-add, drop-at, drop-drop, length-take-le}
 use Rattle.store.specs.Filling.{written}
 
 -- the pool after n bytes of a chunk, of which the first goes to `from`
@@ -26,24 +26,50 @@ pub written-whole : (l bytes : List ℕ) → length bytes ≡ length l → writt
 written-whole l bytes h =
     let past : length l ≤ 0 + length bytes = omega arith in rw (drop-of-length-le l past) (append-nil bytes)
 
--- k bytes from place m on, written over or right after the n that are copied
-paste-over : (d : List ℕ) (at : ℕ) (s : List ℕ) (n m k : ℕ) → m ≤ n → n ≤ m + k → m + k ≤ length s → at + length s ≤ length d
-    → written (paste d at s n) (at + m) (take k (drop m s)) ≡ paste d at s (m + k)
-paste-over d at s n m k h g l f =
-    let head = take at d ++ take n s in
-    let size : length (take k (drop m s)) ≡ k = simp (length-take, length-drop) (omega arith) in
-    let long : length (take at d) ≡ at = length-take-le at d (omega arith) in
-    let front : take (at + m) (paste d at s n) ≡ take at d ++ take m s =
-    take-append-le (at + m) head (drop (at + n) d) (rw (length-paste-head d at s n (omega arith) (omega arith)) (omega arith))
-    ∙ (rw long at (take-append-add (take at d) (take n s) m)) ∙ ap (λ l. take at d ++ l) (take-take m n s h) in
-    let left = m + k - n in
-    let place : at + m + k ≡ at + n + left = omega arith in
-    let beyond : at + n + left ≡ at + (m + k) = omega arith in
-    let back : drop (at + m + k) (paste d at s n) ≡ drop (at + (m + k)) d =
-    ap (λ x. drop x (paste d at s n)) place ∙ sym (drop-drop left (at + n) (paste d at s n))
-    ∙ ap (drop left) (drop-paste d at s n (omega arith) (omega arith)) ∙ drop-drop left (at + n) d
-    ∙ ap (λ x. drop x d) beyond in
-    rw (size, front, back, take-add m k s) (simp append-assoc)
+-- a write that begins with n wanted bytes and goes on into the stretch of what is written next
+pub written-over : (l : List ℕ) (at : ℕ) (a b : List ℕ) (n : ℕ) → at + length a ≤ length l → n ≤ length a
+    → length a ≤ n + length b → written (written l at a) (at + n) b ≡ written l at (take n a ++ b)
+written-over l at a b n h few covered =
+    let back = drop (at + length a) l in
+    let start : length (take at l) ≡ at = length-take-le at l (omega arith) in
+    let size : length (take at l ++ a) ≡ at + length a = length-append (take at l) a ∙ ap (λ k. k + length a) start in
+    let front : take (at + n) (take at l ++ (a ++ back)) ≡ take at l ++ take n a =
+    (rw start at (take-append-add (take at l) (a ++ back) n)) ∙ ap (λ r. take at l ++ r) (take-append-le n a back few) in
+    let more = n + length b - length a in
+    let place : at + n + length b ≡ at + length a + more = omega arith in
+    let beyond : at + length a + more ≡ at + (n + length b) = omega arith in
+    let later : drop (at + n + length b) (take at l ++ (a ++ back)) ≡ drop (at + (n + length b)) l =
+    ap (λ r. drop (at + n + length b) r) (sym (append-assoc (take at l) a back))
+    ∙ ap (λ k. drop k ((take at l ++ a) ++ back)) place
+    ∙ sym (drop-drop more (at + length a) ((take at l ++ a) ++ back))
+    ∙ ap (drop more) (drop-at (take at l ++ a) back _ size)
+    ∙ drop-drop more (at + length a) l ∙ ap (λ k. drop k l) beyond in
+    let first : length (take n a) ≡ n = length-take-le n a few in
+    rw (front, later, length-append (take n a) b, first) (simp append-assoc)
+
+-- two writes, the second where the first ended, are one
+pub written-twice : (l : List ℕ) (at : ℕ) (a b : List ℕ) → at + length a ≤ length l
+    → written (written l at a) (at + length a) b ≡ written l at (a ++ b)
+written-twice l at a b h =
+    written-over l at a b (length a) h (omega arith) (omega arith) ∙ ap (λ x. written l at (x ++ b)) (take-length a)
+
+module _ (d : List ℕ) (at : ℕ) (s : List ℕ) where
+  -- a copy of n bytes is a write of them
+  pasted : (n : ℕ) → n ≤ length s → paste d at s n ≡ written d at (take n s)
+  pasted n h = rw (length-take-le n s h) (append-assoc (take at d) (take n s) (drop (at + n) d))
+
+  -- k bytes from place m on, written over or right after the n that are copied
+  paste-over : (n m k : ℕ) → m ≤ n → n ≤ m + k → m + k ≤ length s → at + length s ≤ length d
+      → written (paste d at s n) (at + m) (take k (drop m s)) ≡ paste d at s (m + k)
+  paste-over n m k h g l f =
+      let part = take k (drop m s) in
+      let size : length part ≡ k = simp (length-take, length-drop) (omega arith) in
+      let first : length (take n s) ≡ n = length-take-le n s (omega arith) in
+      let joined : take m (take n s) ++ part ≡ take (m + k) s =
+      ap (λ x. x ++ part) (take-take m n s h) ∙ sym (take-add m k s) in
+      ap (λ x. written x (at + m) part) (pasted n (omega arith))
+      ∙ (written-over d at (take n s) part m (omega (arith, first)) (omega (arith, first)) (omega (arith, first, size))
+      ∙ (ap (written d at) joined ∙ sym (pasted (m + k) l)))
 
 module _ {before : List ℕ} {from : ℕ} {chunk after : List ℕ} {n : ℕ} (c : Copied before from chunk after n) where
   -- the next byte is copied

@@ -3,12 +3,12 @@ use Prim.Native.Nat.{_-_}
 use native.Mathlib.Omega.{arith}
 use mathlib.Core.Path.{refl}
 use lib.ListN.{length}
-use Rattle.rebuild.proofs.Recipes.{Tested, one-below, one-not-below, all-tested}
+use Rattle.rebuild.proofs.Recipes.{Compared, one-below, one-not-below, all-tested}
 use Rattle.rebuild.proofs.grounds.all_below.Statement.{statement}
 use Rattle.rebuild.proofs.grounds.all_below.Tie as tie
 
 abbrev Inv-loop : tie.InvT-loop
-Inv-loop recipe count below₀ i₀ below i = Tested count recipe below i
+Inv-loop recipe count below₀ i₀ below i = Compared count recipe below i
 
 abbrev μ-loop : tie.MeasureT-loop
 μ-loop recipe count below₀ i₀ below i = length recipe - i
