@@ -1,22 +1,4 @@
-pub mod Moves
-pub mod Appending
-pub mod Soundness
-pub mod Reached
-pub mod FirstCut
-pub mod NextChunk
-pub mod Opening
-pub mod ChunkSizes
-pub mod EverySplitting
-pub mod Tracking
-pub mod PublishedMethod
-pub mod KeptMaximum
-pub mod CutPlaces
-pub mod SharedEnding
-pub mod SharedBeginning
-pub mod EqualTail
-pub mod Blocks
-pub mod Scanning
-pub mod Underway
-pub mod ScanEnds
-pub mod BlockSteps
-pub mod LargeBlocks
+-- theorems/ has what docs/PROMISES.md cites. laws/ has what proofs cite: NextChunk for whoever cuts a job chunk by chunk,
+-- Opening and ground/Soundness for the tests of windows and scanners, Appending and CutPlaces for chunks and places of cuts.
+pub mod laws
+pub mod theorems

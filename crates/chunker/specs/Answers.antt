@@ -1,15 +1,16 @@
 -- What each public function answers, on accepted and refused input alike.
-use Prim.Native.Nat.{ℕ, suc}
-use mathlib.Core.Bool.{Bool, true, false, cond}
-use mathlib.Core.List.{List, [], _∷_}
+use Prim.Native.Nat.{ℕ}
+use mathlib.Core.Bool.{false, cond}
+use mathlib.Core.List.{List}
 use Rattle.refusal.specs.Number.{accepted}
 use Rattle.refusal.specs.declared.Refusal.the-variants.{Accepted, Window}
-use Rattle.chunker.specs.declared.Scanner.{Scanner}
+use Rattle.scan.specs.declared.Scanner.{Scanner}
 use Rattle.chunker.specs.declared.Opened.{Opened}
-use Rattle.chunker.specs.declared.Fed.{Fed}
+use Rattle.scan.specs.declared.Fed.{Fed}
 use Rattle.chunker.specs.declared.Finished.{Finished}
-use Rattle.chunker.specs.Scanner.{windowAllowed, fresh, groundOf}
-use Rattle.chunker.specs.Move.{Move, Rise, Hold, Cut, move, next}
+use Rattle.chunker.specs.Scanner.{windowAllowed, scannerGround}
+use Rattle.scan.specs.Scanner.{fresh}
+use Rattle.scan.specs.Scan.{scan}
 
 -- "Opening a scanner tests 1", "A refused opening gives all zeros"
 unfoldable pub opened : ℕ → Opened
@@ -18,34 +19,26 @@ opened w =
     (record { refusal = Accepted; scanner = fresh w })
     (record { refusal = Window; scanner = fresh 0 })
 
--- the answer to a part of which n bytes were consumed
-abbrev pub consumed : Scanner → ℕ → Bool → Fed
-consumed s n c = record { refusal = Accepted; scanner = s; consumed = n; cut = c }
-
--- a part's bytes up to a cut, or all of them
-abbrev pub stopAtCut : Move → Fed → Fed → Fed
-stopAtCut Rise cut on = on
-stopAtCut Hold cut on = on
-stopAtCut Cut cut on = cut
-
--- "A fed part is consumed up to and including the byte that ends a piece, or whole"; n bytes of it are consumed already
-unfoldable pub scan : Scanner → ℕ → List ℕ → Fed
-scan s n [] = consumed s n false
-scan s n (b ∷ bs) =
-    let on = scan (next s b) (suc n) bs in
-    stopAtCut (move s b) (consumed (next s b) (suc n) true) on
-
 -- "feeding tests 1 and 2", "A refused feed hands the scanner back, consumes 0 and reports no cut"
 unfoldable pub fed : Scanner → List ℕ → Fed
 fed s part =
-    cond (accepted (groundOf s))
+    cond (accepted (scannerGround s))
     (scan s 0 part)
-    (record { refusal = groundOf s; scanner = s; consumed = 0; cut = false })
+    (record { refusal = scannerGround s; scanner = s; consumed = 0; cut = false })
+
+-- what a feed in place answers, and the scanner that it leaves behind the reference
+pub record FedInPlace : Type 0 where
+  pub answer : Fed
+  pub scanner : Scanner
+
+-- "The line controller's own scanner can also be moved on in its place, with the same answers"
+abbrev pub fedInPlace : Scanner → List ℕ → FedInPlace
+fedInPlace s part = record { answer = fed s part; scanner = fed s part .scanner }
 
 -- "Finishing tells the count and sets count, place and value to 0; the window is kept",
 -- "A refused finish tells 0 and hands the scanner back"
 unfoldable pub finished : Scanner → Finished
 finished s =
-    cond (accepted (groundOf s))
-    (record { refusal = groundOf s; scanner = fresh (s .window); count = s .count })
-    (record { refusal = groundOf s; scanner = s; count = 0 })
+    cond (accepted (scannerGround s))
+    (record { refusal = scannerGround s; scanner = fresh (s .window); count = s .count })
+    (record { refusal = scannerGround s; scanner = s; count = 0 })

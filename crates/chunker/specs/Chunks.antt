@@ -4,9 +4,9 @@ use mathlib.Core.Bool.{Bool, cond}
 use mathlib.Core.List.{List, [], _∷_, _++_, map}
 use lib.Dec.{leb}
 use lib.ListN.{length}
-use Rattle.chunker.specs.declared.Scanner.{Scanner}
-use Rattle.chunker.specs.Scanner.{fresh}
-use Rattle.chunker.specs.Move.{Move, Rise, Hold, Cut, move, next}
+use Rattle.scan.specs.declared.Scanner.{Scanner}
+use Rattle.scan.specs.Scanner.{fresh}
+use Rattle.scan.specs.Move.{Move, Rise, Hold, Cut, move, next}
 
 -- the bytes since the last cut, after a move
 abbrev pub kept : Move → List ℕ → List ℕ
@@ -45,6 +45,11 @@ lastChunk (b ∷ bs) = (b ∷ bs) ∷ []
 unfoldable pub chunks : ℕ → List ℕ → List (List ℕ)
 chunks w job = cutChunks (fresh w) [] job ++ lastChunk (remaining (fresh w) [] job)
 
+-- the bytes of chunks
+abbrev pub total : List (List ℕ) → ℕ
+total [] = 0
+total (c ∷ cs) = length c + total cs
+
 -- the places at which chunks end that follow one another from place n on
 abbrev pub ends : ℕ → List (List ℕ) → List ℕ
 ends n [] = []
@@ -55,17 +60,17 @@ unfoldable pub cuts : ℕ → List ℕ → List ℕ
 cuts w job = ends 0 (cutChunks (fresh w) [] job)
 
 -- the members of a list of places that pass a test
-abbrev pub those : (ℕ → Bool) → List ℕ → List ℕ
-those test [] = []
-those test (p ∷ ps) = cond (test p) (p ∷ those test ps) (those test ps)
+abbrev pub filter : (ℕ → Bool) → List ℕ → List ℕ
+filter test [] = []
+filter test (p ∷ ps) = cond (test p) (p ∷ filter test ps) (filter test ps)
 
 -- the cuts of the job x ++ e from place n of its ending e on, counted from 1 in e
 unfoldable pub endingCuts : ℕ → List ℕ → List ℕ → ℕ → List ℕ
-endingCuts w x e n = map (λ p. p - length x) (those (leb (length x + n)) (cuts w (x ++ e)))
+endingCuts w x e n = map (λ p. p - length x) (filter (leb (length x + n)) (cuts w (x ++ e)))
 
 -- the cuts of a job up to its place n
 unfoldable pub cutsWithin : ℕ → List ℕ → ℕ → List ℕ
-cutsWithin w job n = those (λ p. leb p n) (cuts w job)
+cutsWithin w job n = filter (λ p. leb p n) (cuts w job)
 
 -- of chunks that follow one another from a job's start, those that start after its place n
 abbrev pub startingAfter : ℕ → List (List ℕ) → List (List ℕ)

@@ -1,9 +1,7 @@
+-- Method is the published method, Chunks the chunks that are computed; Scanner and Answers say what each function answers.
 pub mod Bytes
 pub mod Scanner
-pub mod Move
 pub mod Answers
-pub mod Run
-pub mod Largest
 pub mod Chunks
 pub mod Method
 pub mod Splitting

@@ -11,7 +11,7 @@ byteAt xs zero = 0
 byteAt xs (suc i) = getD xs i 0
 
 -- "a maximum point is a place whose byte is the piece's first or larger than every byte of the piece before it, and not
--- smaller than any of the w bytes after it, all of which exist". Of the first byte `larger` says nothing
+-- smaller than any of the w bytes after it, all of which exist". `larger` is vacuous at the first byte
 pub record MaximumPoint (w : ℕ) (xs : List ℕ) (p : ℕ) : Type 0 where
   pub place : 1 ≤ p
   pub window : p + w ≤ length xs

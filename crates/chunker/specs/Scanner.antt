@@ -1,18 +1,17 @@
 -- The scanner's numbers: when a window is allowed, a scanner sound, and which ground is reported.
 use Prim.Native.Nat.{ℕ, _+_, _*_}
-use mathlib.Core.Bool.{Bool, cond, _&&_, _||_}
+use mathlib.Core.Bool.{Bool, _&&_, _||_}
+use mathlib.Core.List.{[], _∷_}
 use lib.Dec.{leb, ltb, eqb}
 use Rattle.refusal.specs.declared.Refusal.{Refusal}
-use Rattle.refusal.specs.declared.Refusal.the-variants.{Accepted, Window, Unsound}
-use Rattle.chunker.specs.declared.Scanner.{Scanner}
+use Rattle.refusal.specs.declared.Refusal.the-variants.{Window, Unsound}
+use Rattle.refusal.specs.Grounds.{unless, first}
+use Rattle.scan.specs.declared.Scanner.{Scanner}
+use Rattle.scan.specs.Limits.{windowLimit}
 
--- "The window is not 1 to 1,024" is ground 1
+-- "The window is not 1 to 1,024" does not hold
 unfoldable pub windowAllowed : ℕ → Bool
-windowAllowed w = leb 1 w && leb w 1024
-
--- "After a cut, count, place and value are 0": a scanner with no byte since the last cut
-abbrev pub fresh : ℕ → Scanner
-fresh w = record { window = w; count = 0; place = 0; value = 0 }
+windowAllowed w = leb 1 w && leb w windowLimit
 
 -- "count, place and value are all 0"
 unfoldable pub untouched : Scanner → Bool
@@ -28,6 +27,10 @@ consistent s =
 unfoldable pub sound : Scanner → Bool
 sound s = untouched s || consistent s
 
--- the first of the grounds 1 and 2 that holds of a scanner
-unfoldable pub groundOf : Scanner → Refusal
-groundOf s = cond (windowAllowed (s .window)) (cond (sound s) Accepted Unsound) Window
+-- ground 1
+abbrev pub windowGround : ℕ → Refusal
+windowGround w = unless (windowAllowed w) Window
+
+-- "feeding and finishing 1 and 2": the first that holds of a scanner
+unfoldable pub scannerGround : Scanner → Refusal
+scannerGround s = first (windowGround (s .window) ∷ unless (sound s) Unsound ∷ [])

@@ -5,7 +5,7 @@ use mathlib.Core.Bool.{true, false}
 use mathlib.Core.List.{List, [], _∷_, _++_}
 use lib.ListN.{length, take, drop}
 use Rattle.refusal.specs.declared.Refusal.the-variants.{Accepted}
-use Rattle.chunker.specs.declared.Scanner.{Scanner}
+use Rattle.scan.specs.declared.Scanner.{Scanner}
 use Rattle.chunker.specs.Answers.{fed, finished}
 use Rattle.chunker.specs.Chunks.{lastChunk}
 

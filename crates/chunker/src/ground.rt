@@ -1,17 +1,18 @@
 // The grounds on which a scanner is turned away.
 ghost use mathlib.Core.Path.{_≡_};
-ghost use Rattle.chunker.specs.Scanner.{windowAllowed, untouched, consistent, groundOf};
+ghost use Rattle.chunker.specs.Scanner.{windowAllowed, untouched, consistent, scannerGround};
 use crate::Scanner;
+use crate::WINDOW_LIMIT;
 use refusal::Refusal;
 
-// Ground 1 does not hold.
+// Whether a window is allowed (ground 1).
 pub fn window_allowed(window: u32) -> bool
     ensures { λ r. ⌜ r ≡ windowAllowed window ⌝ }
 {
-    1 <= window && window <= 1024
+    1 <= window && window <= WINDOW_LIMIT
 }
 
-// No byte since the last cut.
+// Whether no byte came since the last cut.
 fn untouched(scanner: Scanner) -> bool
     ensures { λ r. ⌜ r ≡ untouched scanner ⌝ }
 {
@@ -24,8 +25,8 @@ fn untouched(scanner: Scanner) -> bool
     scanner.value == 0
 }
 
-// The numbers that some feed of at least a byte can leave. Every sum and product is taken in 64
-// bits, since a forged scanner holds any numbers.
+// Whether the numbers are those that some feed of at least a byte leaves. Every sum and product is taken
+// in 64 bits, since a forged scanner holds any numbers.
 fn consistent(scanner: Scanner) -> bool
     ensures { λ r. ⌜ r ≡ consistent scanner ⌝ }
 {
@@ -45,9 +46,9 @@ fn consistent(scanner: Scanner) -> bool
     place <= value * window + 1
 }
 
-// The first of the grounds 1 and 2 that holds.
-pub fn of(scanner: Scanner) -> Refusal
-    ensures { λ r. ⌜ r ≡ groundOf scanner ⌝ }
+// The first of the grounds 1 and 2 that holds, if any.
+pub fn scanner_ground(scanner: Scanner) -> Refusal
+    ensures { λ r. ⌜ r ≡ scannerGround scanner ⌝ }
 {
     let window = scanner.window;
     if !window_allowed(window) {

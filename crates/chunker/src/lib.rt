@@ -2,35 +2,22 @@
 // says where its chunks end.
 ghost use mathlib.Core.Path.{_≡_};
 ghost use mathlib.Core.Bool.{false};
-ghost use Rattle.chunker.specs.Answers.{opened, fed, finished};
-ghost use Rattle.chunker.specs.Scanner.{fresh};
+ghost use Rattle.chunker.specs.Answers.{opened, fed, fedInPlace, finished};
+ghost use Rattle.scan.specs.Scanner.{fresh};
 
 mod ground;
-mod largest;
-mod scan;
 
+pub use ground::window_allowed;
 use refusal::Refusal;
+pub use scan::Fed;
+pub use scan::Scanner;
 
-// What is known of the open chunk: its window, the bytes since the last cut, the place of the
-// largest byte so far (first on a tie, counted from 1) and its value.
-pub struct Scanner {
-    pub window: u32,
-    pub count: u32,
-    pub place: u32,
-    pub value: u8,
-}
+// The widest window.
+pub const WINDOW_LIMIT: u32 = 1024;
 
 pub struct Opened {
     pub refusal: Refusal,
     pub scanner: Scanner,
-}
-
-// How many bytes of the part were consumed, and whether a cut follows them.
-pub struct Fed {
-    pub refusal: Refusal,
-    pub scanner: Scanner,
-    pub consumed: usize,
-    pub cut: bool,
 }
 
 // The count is the length of the last chunk, 0 where there is none.
@@ -40,31 +27,19 @@ pub struct Finished {
     pub count: u32,
 }
 
-// A scanner with no byte since the last cut.
-fn fresh(window: u32) -> Scanner
-    ensures { λ r. ⌜ r ≡ fresh window ⌝ }
-{
-    Scanner {
-        window,
-        count: 0,
-        place: 0,
-        value: 0,
-    }
-}
-
 // A fresh scanner. Refused by ground 1, with all zeros.
 pub fn open(window: u32) -> Opened
     ensures { λ r. ⌜ r ≡ opened window ⌝ }
 {
-    if ground::window_allowed(window) {
+    if window_allowed(window) {
         return Opened {
             refusal: Refusal::Accepted,
-            scanner: fresh(window),
+            scanner: scan::fresh(window),
         };
     }
     Opened {
         refusal: Refusal::Window,
-        scanner: fresh(0),
+        scanner: scan::fresh(0),
     }
 }
 
@@ -73,7 +48,7 @@ pub fn open(window: u32) -> Opened
 pub fn feed(scanner: Scanner, part: &[u8]) -> Fed
     ensures { λ r. ⌜ r ≡ fed scanner (now (part .entry)) ⌝ }
 {
-    let refusal = ground::of(scanner);
+    let refusal = ground::scanner_ground(scanner);
     if !refusal::accepted(refusal) {
         return Fed {
             refusal,
@@ -82,15 +57,15 @@ pub fn feed(scanner: Scanner, part: &[u8]) -> Fed
             cut: false,
         };
     }
-    scan::scan(scanner, part)
+    block_scan::scan(scanner, part)
 }
 
-// Moves a fresh scanner on over a part, byte by byte, with the same answer: the shorter way for a small
-// window. Refused by ground 1.
+// Moves a fresh scanner on over a part, byte by byte, with the same answer: cheaper for a small window.
+// Refused by ground 1.
 pub fn feed_fresh(window: u32, part: &[u8]) -> Fed
     ensures { λ r. ⌜ r ≡ fed (fresh window) (now (part .entry)) ⌝ }
 {
-    if !ground::window_allowed(window) {
+    if !window_allowed(window) {
         return unmoved(Refusal::Window, window);
     }
     if part.len() == 0 {
@@ -105,24 +80,24 @@ fn unmoved(refusal: Refusal, window: u32) -> Fed
 {
     Fed {
         refusal,
-        scanner: fresh(window),
+        scanner: scan::fresh(window),
         consumed: 0,
         cut: false,
     }
 }
 
-// The length of the first chunk of a job, whose last chunk no cut need end; 0 where the job is empty
+// The length of the first chunk of a job; its last chunk may end without a cut. 0 where the job is empty
 // or ground 1 holds.
 pub fn next_chunk(window: u32, job: &[u8]) -> usize
     ensures { λ r. ⌜ r ≡ fed (fresh window) (now (job .entry)) .consumed ⌝ }
 {
-    if !ground::window_allowed(window) {
+    if !window_allowed(window) {
         return 0;
     }
     if job.len() == 0 {
         return 0;
     }
-    scan::first_chunk(window, job)
+    block_scan::first_chunk(window, job)
 }
 
 // Tells the length of the chunk that no cut has ended, and starts afresh with the same window.
@@ -130,7 +105,7 @@ pub fn next_chunk(window: u32, job: &[u8]) -> usize
 pub fn finish(scanner: Scanner) -> Finished
     ensures { λ r. ⌜ r ≡ finished scanner ⌝ }
 {
-    let refusal = ground::of(scanner);
+    let refusal = ground::scanner_ground(scanner);
     if !refusal::accepted(refusal) {
         return Finished {
             refusal,
@@ -141,15 +116,15 @@ pub fn finish(scanner: Scanner) -> Finished
     let window = scanner.window;
     Finished {
         refusal,
-        scanner: fresh(window),
+        scanner: scan::fresh(window),
         count: scanner.count,
     }
 }
 
 // Moves the line controller's own scanner on in its place, with the same answer.
 pub fn feed_in_place(scanner: &mut Scanner, part: &[u8]) -> Fed
-    ensures { λ r. ⌜ (r ≡ fed (now (scanner .entry)) (now (part .entry)))
-        × (now (scanner .exit) ≡ fed (now (scanner .entry)) (now (part .entry)) .scanner) ⌝ }
+    ensures { λ r. ⌜ record { answer = r; scanner = now (scanner .exit) }
+        ≡ fedInPlace (now (scanner .entry)) (now (part .entry)) ⌝ }
 {
     let answer = feed(*scanner, part);
     *scanner = answer.scanner;

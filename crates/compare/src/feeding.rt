@@ -1,150 +1,134 @@
-// The scanner's chunks of a job that is fed in parts of random lengths.
-ghost use Prim.Native.Nat.{_≤_, _<_};
+// The scanner's chunks of a job that is fed in random splittings.
+ghost use mathlib.Core.Path.{_≡_};
+ghost use mathlib.Core.Bool.{true};
+ghost use Prim.Native.Nat.{_≤_};
+ghost use lib.ListN.{length};
+ghost use Rattle.difference.specs.Difference.{Told};
 use crate::list;
-use crate::list::Chunks;
 use crate::random;
-use chunker::Fed;
 use chunker::Scanner;
+use difference::Chunks;
+use difference::Difference;
 
-// The scanner, the bytes consumed since the last cut, the cuts so far, and whether every answer was
-// allowed.
+// The scanner, how far the job is consumed and how much of that since the last cut, the cuts so
+// far, and whether every answer was allowed.
 struct Progress {
     scanner: Scanner,
+    at: usize,
     open: usize,
     cuts: usize,
     right: bool,
 }
 
-// What a whole job gave.
-pub struct Answer {
-    pub chunks: Chunks,
-    pub right: bool,
-}
-
-// How many bytes a part of a splitting has at most after its first: none in some splittings, the
-// whole job in others.
-fn most_more(seed: u32) -> usize {
-    match seed % 8 {
-        0 => 0,
-        1 => 1,
-        2 => 4,
-        3 => 16,
-        4 => 80,
-        5 => 600,
-        6 => 2500,
-        _ => 8191,
-    }
-}
-
-// Where a part that starts at `at` ends, at least a byte on and not past `end`.
-fn part_end(at: usize, end: usize, more: usize, seed: u32) -> usize
-    requires { ⌜ at < end ⌝ }
-    ensures { λ r. ⌜ (at < r) × (r ≤ end) ⌝ }
-{
-    at + 1 + random::up_to(seed, random::least(more, end - at - 1))
-}
-
-// Whether an answer to `rest` bytes is accepted and consumes at least one of them before a cut, and
+// Whether an answer to `rest` bytes is accepted, and consumes at least one of them before a cut, and
 // all of them where no cut follows.
-fn allowed(fed: Fed, rest: usize) -> bool {
-    let refusal = fed.refusal;
-    if !refusal::accepted(refusal) {
+fn allowed(accepted: bool, consumed: usize, cut: bool, rest: usize) -> bool
+    ensures { λ r. ⌜ (r ≡ true → consumed ≤ rest) ⌝ }
+{
+    if !accepted {
         return false;
     }
-    if fed.cut {
-        return fed.consumed != 0 && fed.consumed <= rest;
+    if cut {
+        return 1 <= consumed && consumed <= rest;
     }
-    fed.consumed == rest
+    consumed == rest
 }
 
-// What is known after an answer to `rest` bytes.
-fn moved(progress: Progress, fed: Fed, rest: usize, lengths: &mut [usize]) -> Progress {
-    let open = std::num::wrapping_add_usize(progress.open, fed.consumed);
-    let right = progress.right && allowed(fed, rest);
-    let scanner = fed.scanner;
-    if fed.cut {
-        return Progress {
-            scanner,
-            open: 0,
-            cuts: list::add(lengths, progress.cuts, open),
-            right,
-        };
-    }
-    Progress {
-        scanner,
-        open,
-        cuts: progress.cuts,
-        right,
-    }
-}
-
-// Feeds a part, which may be empty, and after each cut the rest of it again, which may be empty
-// too.
-fn feed_part(progress: Progress, part: &[u8], lengths: &mut [usize]) -> Progress {
-    let mut current = progress;
-    let mut at = 0;
-    loop {
-        let rest = &part[at..];
-        let scanner = current.scanner;
-        let fed = chunker::feed(scanner, rest);
-        let consumed = fed.consumed;
-        current = moved(current, fed, rest.len(), lengths);
-        if !fed.cut {
-            return current;
-        }
-        if consumed == 0 {
-            return current;
-        }
-        if part.len() - at < consumed {
-            return current;
-        }
-        at += consumed;
-    }
-}
-
-// Tells the last chunk, whose length is that of the bytes consumed since the last cut.
-fn finish(progress: Progress) -> Answer {
+// Feeds a part of up to `most` bytes, which may be empty, from where the last answer ended.
+fn fed_part(
+    progress: Progress,
+    job: &[u8],
+    most: u32,
+    random: u32,
+    lengths: &mut [usize],
+) -> Progress
+    requires { ⌜ progress .at ≤ length (now job) ⌝ }
+    ensures { λ r. ⌜ r .at ≤ length (now (job .entry)) ⌝ }
+{
+    let at = progress.at;
+    let end = at + random::up_to(random, most, job.len() - at);
     let scanner = progress.scanner;
-    let finished = chunker::finish(scanner);
-    let last = finished.count as usize;
-    let right = refusal::accepted(finished.refusal) && progress.open == last;
-    Answer {
-        chunks: Chunks {
-            cuts: progress.cuts,
-            last,
-        },
-        right: right && progress.right,
+    let fed = chunker::feed(scanner, &job[at..end]);
+    let consumed = fed.consumed;
+    let refusal = fed.refusal;
+    let mut next = progress;
+    if !allowed(refusal::accepted(refusal), consumed, fed.cut, end - at) {
+        next.right = false;
+        return next;
+    }
+    let moved = fed.scanner;
+    next.scanner = moved;
+    next.at = at + consumed;
+    next.open = std::num::wrapping_add_usize(progress.open, consumed);
+    if fed.cut {
+        next.cuts = list::add(lengths, progress.cuts, next.open);
+        next.open = 0;
+    }
+    next
+}
+
+// Tells the last chunk, which has to be as long as the bytes since the last cut.
+fn finished(progress: Progress) -> Chunks {
+    let scanner = progress.scanner;
+    let answer = chunker::finish(scanner);
+    let refusal = answer.refusal;
+    let last = answer.count as usize;
+    Chunks {
+        cuts: progress.cuts,
+        last,
+        right: progress.right && last == progress.open && refusal::accepted(refusal),
     }
 }
 
-// A fresh scanner.
-fn opened(window: u32) -> Progress {
+// Puts the lengths of a job's cut chunks into `lengths`. The job is fed in parts of random lengths up
+// to a most that the seed gives, and ends with an empty part.
+fn chunks(job: &[u8], window: u32, seed: u32, lengths: &mut [usize]) -> Chunks {
     let opened = chunker::open(window);
     let scanner = opened.scanner;
     let refusal = opened.refusal;
-    Progress {
+    let mut progress = Progress {
         scanner,
+        at: 0,
         open: 0,
         cuts: 0,
         right: refusal::accepted(refusal),
+    };
+    let mut random = seed;
+    let mut parts = 0u32;
+    while parts < 100_000 {
+        if progress.at == job.len() {
+            return finished(fed_part(progress, job, 0, random, lengths));
+        }
+        random = random::next(random);
+        progress = fed_part(progress, job, 1 << (seed % 14), random, lengths);
+        parts += 1;
     }
+    progress.right = false;
+    finished(progress)
 }
 
-// Puts the lengths of a job's cut chunks into `lengths`. Each turn feeds two parts, of which one
-// can be empty, and the job ends with an empty part.
-pub fn chunks(job: &[u8], window: u32, seed: u32, lengths: &mut [usize]) -> Answer {
-    let mut progress = opened(window);
-    let more = most_more(seed);
+// Feeds the job in each splitting, up to the first whose chunks differ from those due. Where no
+// difference is told, `found` keeps the lengths of the last splitting.
+pub fn compared(
+    job: &[u8],
+    window: u32,
+    seed: u32,
+    splittings: u32,
+    expected: &[usize],
+    due: Chunks,
+    found: &mut [usize],
+) -> Difference
+    ensures { λ r. ⌜ (r ≡ Difference.Nowhere → 1 ≤ splittings → Told (now (expected .entry)) due (now (found .exit))) ⌝ }
+{
     let mut random = seed;
-    let mut at = 0;
-    while at < job.len() {
+    let mut turn = 0;
+    while turn < splittings {
         random = random::next(random);
-        let end = part_end(at, job.len(), more, random);
-        random = random::next(random);
-        let middle = at + random::up_to(random, end - at);
-        progress = feed_part(progress, &job[at..middle], lengths);
-        progress = feed_part(progress, &job[middle..end], lengths);
-        at = end;
+        let got = chunks(job, window, random, found);
+        if let Difference::At(chunk) = difference::first_difference(expected, due, found, got) {
+            return Difference::At(chunk);
+        }
+        turn += 1;
     }
-    finish(feed_part(progress, &job[at..], lengths))
+    Difference::Nowhere
 }

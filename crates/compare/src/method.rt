@@ -4,49 +4,29 @@
 ghost use Prim.Native.Nat.{_+_, _≤_};
 ghost use lib.ListN.{length};
 use crate::list;
-use crate::list::Chunks;
+use difference::Chunks;
 
-// The byte at the place is larger than every byte of the chunk before it.
-fn larger_than_all_before(rest: &[u8], place: usize) -> bool
-    requires { ⌜ 1 ≤ place ⌝ }
-    requires { ⌜ place ≤ length (now rest) ⌝ }
-{
-    let byte = rest[place - 1];
-    let mut before = 1;
-    while before < place {
-        if byte <= rest[before - 1] {
-            return false;
-        }
-        before += 1;
-    }
-    true
-}
-
-// The byte at the place is not smaller than any of the `window` bytes after it.
-fn not_smaller_than_any_after(rest: &[u8], place: usize, window: usize) -> bool
-    requires { ⌜ 1 ≤ place ⌝ }
-    requires { ⌜ place + window ≤ length (now rest) ⌝ }
-{
-    let byte = rest[place - 1];
-    let mut after = 1;
-    while after <= window {
-        if byte < rest[place + after - 1] {
-            return false;
-        }
-        after += 1;
-    }
-    true
-}
-
-// The two conditions of a maximum point, at a place after which `window` bytes exist.
+// Whether the place is a maximum point: its byte is larger than every byte of the chunk before it,
+// and not smaller than any of the `window` bytes after it.
 fn maximum_point(rest: &[u8], place: usize, window: usize) -> bool
     requires { ⌜ 1 ≤ place ⌝ }
     requires { ⌜ place + window ≤ length (now rest) ⌝ }
 {
-    if place == 1 || larger_than_all_before(rest, place) {
-        return not_smaller_than_any_after(rest, place, window);
+    let byte = rest[place - 1];
+    let mut other = 1;
+    while other <= place + window {
+        let value = rest[other - 1];
+        if byte < value {
+            return false;
+        }
+        if byte == value {
+            if other < place {
+                return false;
+            }
+        }
+        other += 1;
     }
-    false
+    true
 }
 
 // The length of the chunk that starts with the first byte of `rest` and that a cut ends, or 0
@@ -70,16 +50,16 @@ fn cut_length(rest: &[u8], window: usize) -> usize
 pub fn chunks(job: &[u8], window: usize, lengths: &mut [usize]) -> Chunks {
     let mut start = 0;
     let mut cuts = 0;
-    while start < job.len() {
+    loop {
         let cut = cut_length(&job[start..], window);
         if cut == 0 {
             return Chunks {
                 cuts,
                 last: job.len() - start,
+                right: true,
             };
         }
         cuts = list::add(lengths, cuts, cut);
         start += cut;
     }
-    Chunks { cuts, last: 0 }
 }

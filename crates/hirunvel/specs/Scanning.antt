@@ -1,15 +1,16 @@
 -- The scanner's functions over numbers.
 use Prim.Native.Nat.{ℕ}
-use mathlib.Core.Bool.{cond}
+use mathlib.Core.Bool.{cond, _&&_}
 use mathlib.Core.List.{List, [], _∷_}
-use lib.Dec.{ltb}
+use lib.Dec.{leb}
 use lib.ListN.{getD}
 use Rattle.refusal.specs.Number.{numberOf, accepted}
+use Rattle.refusal.specs.Grounds.{unless, first}
 use Rattle.refusal.specs.declared.Refusal.{Refusal}
-use Rattle.refusal.specs.declared.Refusal.the-variants.{Window, Unsound}
-use Rattle.chunker.specs.declared.Scanner.{Scanner}
-use Rattle.chunker.specs.declared.Fed.{Fed}
-use Rattle.chunker.specs.Scanner.{windowAllowed, groundOf}
+use Rattle.refusal.specs.declared.Refusal.the-variants.{Unsound}
+use Rattle.scan.specs.declared.Scanner.{Scanner}
+use Rattle.scan.specs.declared.Fed.{Fed}
+use Rattle.chunker.specs.Scanner.{windowGround, sound}
 use Rattle.chunker.specs.Answers.{opened, fed, finished}
 
 -- "window, bytes since the last cut (count), place of the largest byte so far (first on a tie) and its value"
@@ -20,15 +21,14 @@ numbersOf s = s .window ∷ s .count ∷ s .place ∷ s .value ∷ []
 abbrev pub scannerOf : List ℕ → Scanner
 scannerOf n = record { window = getD n 0 0; count = getD n 1 0; place = getD n 2 0; value = getD n 3 0 }
 
--- the first of the grounds 1 and 2 that holds of a scanner whose value is no byte, which is not sound
-abbrev pub noByteGround : ℕ → Refusal
-noByteGround w = cond (windowAllowed w) Unsound Window
+-- the first of the grounds 1 and 2 that holds of a scanner whose value is over 255, which is not sound
+abbrev pub overGround : ℕ → Refusal
+overGround w = first (windowGround w ∷ Unsound ∷ [])
 
 -- "feeding and finishing 1 and 2": the first that holds of four numbers; "its value, a byte"
-unfoldable pub scannerGround : List ℕ → Refusal
-scannerGround n =
-    let ground = groundOf (scannerOf n) in
-    cond (ltb 255 (getD n 3 0)) (noByteGround (getD n 0 0)) ground
+unfoldable pub numbersGround : List ℕ → Refusal
+numbersGround n =
+    first (windowGround (getD n 0 0) ∷ unless (leb (getD n 3 0) 255 && sound (scannerOf n)) Unsound ∷ [])
 
 -- what an opening answers and writes
 pub record ScannerOpening : Type 0 where
@@ -45,14 +45,14 @@ pub record ScannerFeeding : Type 0 where
   pub scanner : List ℕ
   pub fed : List ℕ
 
--- "The answer says how many bytes were consumed and whether a cut follows": 1 where it does
+-- "The answer says how many bytes were consumed and whether a cut follows", which 1 tells
 abbrev pub told : Fed → List ℕ
 told f = f .consumed ∷ cond (f .cut) 1 0 ∷ []
 
 -- "A refused feed hands the scanner back, consumes 0 and reports no cut"
 unfoldable pub scannerFed : List ℕ → List ℕ → ScannerFeeding
 scannerFed n part =
-    let ground = scannerGround n in
+    let ground = numbersGround n in
     let f = fed (scannerOf n) part in
     cond (accepted ground)
     (record { refusal = numberOf ground; scanner = numbersOf (f .scanner); fed = told f })
@@ -67,7 +67,7 @@ pub record ScannerFinishing : Type 0 where
 -- "Finishing tells the count", "A refused finish tells 0 and hands the scanner back"
 unfoldable pub scannerFinished : List ℕ → ScannerFinishing
 scannerFinished n =
-    let ground = scannerGround n in
+    let ground = numbersGround n in
     let f = finished (scannerOf n) in
     cond (accepted ground)
     (record { refusal = numberOf ground; scanner = numbersOf (f .scanner); count = f .count })

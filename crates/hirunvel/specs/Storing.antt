@@ -6,10 +6,11 @@ use lib.IntN.{ℤ}
 use lib.ListN.{getD}
 use Rattle.refusal.specs.Number.{numberOf, accepted}
 use Rattle.store.specs.declared.Head.{Head}
-use Rattle.store.specs.declared.Admitted.{Admitted}
-use Rattle.store.specs.Directory.{offsetAt, lengthAt}
-use Rattle.store.specs.Admission.{opened, admitted}
-use Rattle.store.specs.Looking.{lookGround}
+use Rattle.admission.specs.declared.Admitted.{Admitted}
+use Rattle.directory.specs.Entry.{offsetAt, lengthAt}
+use Rattle.store.specs.Opening.{opened}
+use Rattle.admission.specs.Admission.{admitted}
+use Rattle.store.specs.Grounds.{lookGround}
 
 -- "a head of three numbers (window, pieces, filled)"
 abbrev pub headOf : List ℕ → Head

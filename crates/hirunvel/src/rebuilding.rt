@@ -15,9 +15,8 @@ pub extern "C" fn hirunvel_rebuild(
     output: &mut [u8],
     written: &mut [u64; 1],
 ) -> u32
-    ensures { λ r. ⌜ r ≡ jobRebuilt (now (head .entry)) (now (pool .entry)) (now (directory .entry)) (now (recipe .entry)) (now (output .entry)) .refusal ⌝ }
-    ensures { λ r. ⌜ now (output .exit) ≡ jobRebuilt (now (head .entry)) (now (pool .entry)) (now (directory .entry)) (now (recipe .entry)) (now (output .entry)) .output ⌝ }
-    ensures { λ r. ⌜ now (written .exit) ≡ jobRebuilt (now (head .entry)) (now (pool .entry)) (now (directory .entry)) (now (recipe .entry)) (now (output .entry)) .written ⌝ }
+    ensures { λ r. ⌜ record { refusal = r; output = now (output .exit); written = now (written .exit) }
+        ≡ jobRebuilt (now (head .entry)) (now (pool .entry)) (now (directory .entry)) (now (recipe .entry)) (now (output .entry)) ⌝ }
 {
     let answer = rebuild::rebuild(storing::head_of(*head), pool, directory, recipe, output);
     let refusal = answer.refusal;

@@ -4,8 +4,8 @@ ghost use mathlib.Core.Bool.{true};
 ghost use Prim.Native.Nat.{_≤_};
 ghost use lib.ListN.{getD};
 ghost use Rattle.refusal.specs.Number.{numberOf};
-ghost use Rattle.chunker.specs.Scanner.{fresh};
-ghost use Rattle.hirunvel.specs.Scanning.{numbersOf, scannerOf, noByteGround, scannerOpened, scannerFed, scannerFinished};
+ghost use Rattle.scan.specs.Scanner.{fresh};
+ghost use Rattle.hirunvel.specs.Scanning.{numbersOf, scannerOf, overGround, scannerOpened, scannerFed, scannerFinished};
 use crate::result;
 use chunker::Scanner;
 use refusal::Refusal;
@@ -35,23 +35,20 @@ fn scanner_of(numbers: [u32; 4]) -> Scanner
     }
 }
 
-// The result for a scanner whose value is no byte: the first of the grounds 1 and 2.
-fn no_byte(window: u32) -> u32
-    ensures { λ r. ⌜ r ≡ numberOf (noByteGround window) ⌝ }
+// The result for a scanner whose value is over 255: the first of the grounds 1 and 2.
+fn value_over_255(window: u32) -> u32
+    ensures { λ r. ⌜ r ≡ numberOf (overGround window) ⌝ }
 {
-    let opened = chunker::open(window);
-    let refusal = opened.refusal;
-    if refusal::accepted(refusal) {
+    if chunker::window_allowed(window) {
         return result::of(Refusal::Unsound);
     }
-    result::of(refusal)
+    result::of(Refusal::Window)
 }
 
 // Opens a scanner. Refused by ground 1, with all zeros.
 #[no_mangle]
 pub extern "C" fn hirunvel_scanner_open(window: u32, scanner: &mut [u32; 4]) -> u32
-    ensures { λ r. ⌜ r ≡ scannerOpened window .refusal ⌝ }
-    ensures { λ r. ⌜ now (scanner .exit) ≡ scannerOpened window .scanner ⌝ }
+    ensures { λ r. ⌜ record { refusal = r; scanner = now (scanner .exit) } ≡ scannerOpened window ⌝ }
 {
     let answer = chunker::open(window);
     let refusal = answer.refusal;
@@ -59,7 +56,7 @@ pub extern "C" fn hirunvel_scanner_open(window: u32, scanner: &mut [u32; 4]) -> 
     result::of(refusal)
 }
 
-// No byte since the last cut: the numbers are those of a fresh scanner.
+// Whether no byte came since the last cut, so that the numbers are those of a fresh scanner.
 fn untouched(numbers: [u32; 4]) -> bool
     ensures { λ r. ⌜ (r ≡ true → numbers ≡ numbersOf (fresh (getD numbers 0 0))) ⌝ }
 {
@@ -72,25 +69,24 @@ fn untouched(numbers: [u32; 4]) -> bool
     numbers[3] == 0
 }
 
-// Moves the scanner on over a part; tells the bytes consumed, and 1 where a cut follows them.
-// Refused by grounds 1 and 2, with the scanner untouched and zeros told. Fed once a chunk, a scanner is
-// fresh at each call: with a small window it goes a shorter way, and a cut leaves its numbers as they are.
+// Moves the scanner on over a part; tells the bytes consumed, and 1 if a cut follows them. Refused by
+// grounds 1 and 2, with the scanner untouched and zeros told. Fed once per chunk, a scanner is fresh at each
+// call: a small window then takes a fast path, and a cut leaves the numbers as they are.
 #[no_mangle]
 pub extern "C" fn hirunvel_scanner_feed(
     scanner: &mut [u32; 4],
     part: &[u8],
     fed: &mut [u64; 2],
 ) -> u32
-    ensures { λ r. ⌜ r ≡ scannerFed (now (scanner .entry)) (now (part .entry)) .refusal ⌝ }
-    ensures { λ r. ⌜ now (scanner .exit) ≡ scannerFed (now (scanner .entry)) (now (part .entry)) .scanner ⌝ }
-    ensures { λ r. ⌜ now (fed .exit) ≡ scannerFed (now (scanner .entry)) (now (part .entry)) .fed ⌝ }
+    ensures { λ r. ⌜ record { refusal = r; scanner = now (scanner .exit); fed = now (fed .exit) }
+        ≡ scannerFed (now (scanner .entry)) (now (part .entry)) ⌝ }
 {
     let numbers = *scanner;
     if 16 <= numbers[0] {
-        return feed_any(scanner, part, fed);
+        return feed_general(scanner, part, fed);
     }
     if !untouched(numbers) {
-        return feed_any(scanner, part, fed);
+        return feed_general(scanner, part, fed);
     }
     let answer = chunker::feed_fresh(numbers[0], part);
     let refusal = answer.refusal;
@@ -101,17 +97,16 @@ pub extern "C" fn hirunvel_scanner_feed(
     result::of(refusal)
 }
 
-// The same for any scanner. Two calls of it keep the compiler from inlining it, so that the shorter way
-// has none of its registers to save.
-fn feed_any(scanner: &mut [u32; 4], part: &[u8], fed: &mut [u64; 2]) -> u32
-    ensures { λ r. ⌜ r ≡ scannerFed (now (scanner .entry)) (now (part .entry)) .refusal ⌝ }
-    ensures { λ r. ⌜ now (scanner .exit) ≡ scannerFed (now (scanner .entry)) (now (part .entry)) .scanner ⌝ }
-    ensures { λ r. ⌜ now (fed .exit) ≡ scannerFed (now (scanner .entry)) (now (part .entry)) .fed ⌝ }
+// The same for any scanner. Called from two places so that it is not inlined; the fast path then saves no
+// registers.
+fn feed_general(scanner: &mut [u32; 4], part: &[u8], fed: &mut [u64; 2]) -> u32
+    ensures { λ r. ⌜ record { refusal = r; scanner = now (scanner .exit); fed = now (fed .exit) }
+        ≡ scannerFed (now (scanner .entry)) (now (part .entry)) ⌝ }
 {
     let numbers = *scanner;
     if 255 < numbers[3] {
         *fed = [0, 0];
-        return no_byte(numbers[0]);
+        return value_over_255(numbers[0]);
     }
     let answer = chunker::feed(scanner_of(numbers), part);
     let refusal = answer.refusal;
@@ -127,14 +122,13 @@ fn feed_any(scanner: &mut [u32; 4], part: &[u8], fed: &mut [u64; 2]) -> u32
 // with the scanner untouched and 0 told.
 #[no_mangle]
 pub extern "C" fn hirunvel_scanner_finish(scanner: &mut [u32; 4], count: &mut u64) -> u32
-    ensures { λ r. ⌜ r ≡ scannerFinished (now (scanner .entry)) .refusal ⌝ }
-    ensures { λ r. ⌜ now (scanner .exit) ≡ scannerFinished (now (scanner .entry)) .scanner ⌝ }
-    ensures { λ r. ⌜ now (count .exit) ≡ scannerFinished (now (scanner .entry)) .count ⌝ }
+    ensures { λ r. ⌜ record { refusal = r; scanner = now (scanner .exit); count = now (count .exit) }
+        ≡ scannerFinished (now (scanner .entry)) ⌝ }
 {
     let numbers = *scanner;
     if 255 < numbers[3] {
         *count = 0;
-        return no_byte(numbers[0]);
+        return value_over_255(numbers[0]);
     }
     let answer = chunker::finish(scanner_of(numbers));
     let refusal = answer.refusal;

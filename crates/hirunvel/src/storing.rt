@@ -29,8 +29,7 @@ fn head_numbers(head: Head) -> [u32; 3]
 // Opens a store. Refused by ground 1, with all zeros.
 #[no_mangle]
 pub extern "C" fn hirunvel_store_open(window: u32, head: &mut [u32; 3]) -> u32
-    ensures { λ r. ⌜ r ≡ storeOpened window .refusal ⌝ }
-    ensures { λ r. ⌜ now (head .exit) ≡ storeOpened window .head ⌝ }
+    ensures { λ r. ⌜ record { refusal = r; head = now (head .exit) } ≡ storeOpened window ⌝ }
 {
     let answer = store::open(window);
     let refusal = answer.refusal;
@@ -50,15 +49,18 @@ pub extern "C" fn hirunvel_store_admit(
     counts: &mut [u64; 3],
     saving: &mut [i64; 1],
 ) -> u32
-    ensures { λ r. ⌜ r ≡ storeAdmitted (now (head .entry)) (now (pool .entry)) (now (directory .entry)) (now (recipe .entry)) (now (job .entry)) .refusal ⌝ }
-    ensures { λ r. ⌜ now (head .exit) ≡ storeAdmitted (now (head .entry)) (now (pool .entry)) (now (directory .entry)) (now (recipe .entry)) (now (job .entry)) .head ⌝ }
-    ensures { λ r. ⌜ now (pool .exit) ≡ storeAdmitted (now (head .entry)) (now (pool .entry)) (now (directory .entry)) (now (recipe .entry)) (now (job .entry)) .pool ⌝ }
-    ensures { λ r. ⌜ now (directory .exit) ≡ storeAdmitted (now (head .entry)) (now (pool .entry)) (now (directory .entry)) (now (recipe .entry)) (now (job .entry)) .directory ⌝ }
-    ensures { λ r. ⌜ now (recipe .exit) ≡ storeAdmitted (now (head .entry)) (now (pool .entry)) (now (directory .entry)) (now (recipe .entry)) (now (job .entry)) .recipe ⌝ }
-    ensures { λ r. ⌜ now (counts .exit) ≡ storeAdmitted (now (head .entry)) (now (pool .entry)) (now (directory .entry)) (now (recipe .entry)) (now (job .entry)) .counts ⌝ }
-    ensures { λ r. ⌜ now (saving .exit) ≡ storeAdmitted (now (head .entry)) (now (pool .entry)) (now (directory .entry)) (now (recipe .entry)) (now (job .entry)) .saving ⌝ }
+    ensures { λ r. ⌜ record {
+      refusal = r;
+      head = now (head .exit);
+      pool = now (pool .exit);
+      directory = now (directory .exit);
+      recipe = now (recipe .exit);
+      counts = now (counts .exit);
+      saving = now (saving .exit);
+    }
+        ≡ storeAdmitted (now (head .entry)) (now (pool .entry)) (now (directory .entry)) (now (recipe .entry)) (now (job .entry)) ⌝ }
 {
-    let answer = store::admit(head_of(*head), pool, directory, recipe, job);
+    let answer = admission::admit(head_of(*head), pool, directory, recipe, job);
     let refusal = answer.refusal;
     *counts = [
         answer.recipe_length as u64,
@@ -83,10 +85,10 @@ pub extern "C" fn hirunvel_store_look(
     number: u32,
     stretch: &mut [u64; 2],
 ) -> u32
-    ensures { λ r. ⌜ r ≡ storeLooked (now (head .entry)) (now (pool .entry)) (now (directory .entry)) number .refusal ⌝ }
-    ensures { λ r. ⌜ now (stretch .exit) ≡ storeLooked (now (head .entry)) (now (pool .entry)) (now (directory .entry)) number .stretch ⌝ }
+    ensures { λ r. ⌜ record { refusal = r; stretch = now (stretch .exit) }
+        ≡ storeLooked (now (head .entry)) (now (pool .entry)) (now (directory .entry)) number ⌝ }
 {
-    let refusal = store::look_refusal(head_of(*head), pool, directory, ChunkNumber(number));
+    let refusal = store::look_ground(head_of(*head), pool, directory, ChunkNumber(number));
     if !refusal::accepted(refusal) {
         *stretch = [0, 0];
         return result::of(refusal);

@@ -1,15 +1,35 @@
 -- The listing of a job: "prints a frame a line, 22 upper-case hexadecimal digits and a line feed".
-use Prim.Native.Nat.{ℕ, zero, suc, _+_, _/_, _%_}
+use Prim.Native.Nat.{ℕ, zero, suc, _+_, _*_, _/_, _%_}
 use mathlib.Core.Bool.{cond}
 use mathlib.Core.List.{List, [], _∷_, _++_}
 use lib.Dec.{leb, ltb}
-use lib.ListN.{length, replicate}
+use lib.ListN.{length, drop, replicate}
 use Rattle.refusal.specs.Number.{numberOf, accepted}
 use Rattle.refusal.specs.declared.Refusal.{Refusal}
 use Rattle.refusal.specs.declared.Refusal.the-variants.{Accepted, JobLength}
 use Rattle.chunker.specs.Chunks.{chunks}
-use Rattle.store.specs.Admission.{Admission, fresh, admitted}
-use Rattle.store.specs.History.{has, recipeOf}
+use Rattle.directory.specs.Entry.{stride}
+use Rattle.store.specs.Opening.{fresh}
+use Rattle.store.specs.Contents.{has}
+use Rattle.admission.specs.Admission.{Admission, admitted, recipeOf}
+use Rattle.listing_frames.specs.declared.Listed.{Listed}
+
+-- "window 4, a pool of 32,768 bytes, 1,024 entries and 1,024 recipe places"
+abbrev pub window : ℕ
+window = 4
+
+abbrev pub poolBytes : ℕ
+poolBytes = 32768
+
+abbrev pub directoryNumbers : ℕ
+directoryNumbers = 1024 * stride
+
+abbrev pub recipePlaces : ℕ
+recipePlaces = 1024
+
+-- "Input over 16,384 bytes is refusal 3"
+abbrev pub longestJob : ℕ
+longestJob = 16384
 
 -- the character of a digit: 48 is "0", and 55 is 10 less than "A"
 abbrev pub digit : ℕ → ℕ
@@ -19,6 +39,10 @@ digit d = cond (ltb d 10) (48 + d) (55 + d)
 unfoldable pub hex : ℕ → ℕ → List ℕ
 hex zero n = []
 hex (suc width) n = hex width (n / 16) ++ (digit (n % 16) ∷ [])
+
+-- "22 upper-case hexadecimal digits and a line feed"
+abbrev pub frameBytes : ℕ
+frameBytes = 23
 
 -- "piece number (4), job position from 0 (8), length (8), 01 for new or 00 for repeated (2)" and a line feed
 unfoldable pub frame : ℕ → ℕ → ℕ → ℕ → List ℕ
@@ -41,17 +65,39 @@ lastFrame newBytes jobLength refusal = frame 65535 newBytes jobLength (numberOf 
 abbrev pub refusedFrame : Refusal → List ℕ
 refusedFrame refusal = lastFrame 0 0 refusal
 
--- "window 4, a pool of 32,768 bytes, 1,024 entries and 1,024 recipe places. It admits standard input to a fresh store"
+-- "It admits standard input to a fresh store"
 abbrev pub outcome : List ℕ → Admission
-outcome job = admitted (fresh 4) (replicate 32768 0) (replicate 2048 0) (replicate 1024 0) job
+outcome job =
+    admitted (fresh window) (replicate poolBytes 0) (replicate directoryNumbers 0) (replicate recipePlaces 0) job
 
 -- the frames of a job that was admitted
 abbrev pub admittedFrames : List ℕ → Admission → List ℕ
 admittedFrames job a =
     cond (accepted (a .answer .refusal))
-    (chunkFrames [] 0 (chunks 4 job) (recipeOf a) ++ lastFrame (a .answer .«new_bytes») (length job) Accepted)
+    (chunkFrames [] 0 (chunks window job) (recipeOf a) ++ lastFrame (a .answer .«new_bytes») (length job) Accepted)
     (refusedFrame (a .answer .refusal))
 
--- "Input over 16,384 bytes is refusal 3"
+-- the text of a job's frames
 unfoldable pub listing : List ℕ → List ℕ
-listing job = cond (leb (length job) 16384) (admittedFrames job (outcome job)) (refusedFrame JobLength)
+listing job = cond (leb (length job) longestJob) (admittedFrames job (outcome job)) (refusedFrame JobLength)
+
+-- the refusal of a job
+unfoldable pub refusalOf : List ℕ → Refusal
+refusalOf job = cond (leb (length job) longestJob) (outcome job .answer .refusal) JobLength
+
+-- what a listing answers, and the output that it leaves
+pub record Listing : Type 0 where
+  pub answer : Listed
+  pub output : List ℕ
+
+-- a refusal is told, and a text stands at the front of the output
+abbrev pub written : Refusal → List ℕ → List ℕ → Listing
+written refusal text output =
+    record {
+      answer = record { refusal = refusal; written = length text };
+      output = text ++ drop (length text) output;
+    }
+
+-- the listing of a job to an output
+unfoldable pub listed : List ℕ → List ℕ → Listing
+listed job output = written (refusalOf job) (listing job) output

@@ -1,2 +1,3 @@
+-- Frames says what a listing answers and writes. In internal/ is what only contracts of private functions cite.
 pub mod Frames
-pub mod Counted
+pub mod internal

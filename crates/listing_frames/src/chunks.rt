@@ -4,8 +4,11 @@ ghost use Prim.Native.Nat.{_*_, _≤_};
 ghost use lib.ListN.{length};
 ghost use lib.Seq.{sets};
 ghost use Rattle.chunker.specs.Chunks.{chunks};
-ghost use Rattle.listing_frames.specs.Counted.{mark, countedFrames};
+ghost use Rattle.listing_frames.specs.Frames.{window, longestJob, frameBytes};
+ghost use Rattle.listing_frames.specs.internal.Counted.{mark, countedFrames};
+use crate::WINDOW;
 use crate::text;
+use crate::text::FRAME_BYTES;
 use store::ChunkNumber;
 use store::JobPosition;
 
@@ -16,25 +19,25 @@ fn mark(number: ChunkNumber, next: ChunkNumber) -> u8
     if number.0 == next.0 { 1 } else { 0 }
 }
 
-// Writes a frame for each chunk of a job, and tells how many bytes they are. The chunks are found
-// once more, and their numbers are in the recipe.
+// Writes one frame per chunk of a job, and tells how many bytes they are. The chunks are found once
+// more, and their numbers are in the recipe.
 pub fn frames(job: &[u8], recipe: &[u32], output: &mut [u8]) -> usize
-    requires { ⌜ length (now job) ≤ 16384 ⌝ }
-    requires { ⌜ length (chunks 4 (now job)) ≤ length (now recipe) ⌝ }
-    requires { ⌜ 23 * length (chunks 4 (now job)) ≤ length (now output) ⌝ }
-    ensures { λ r. ⌜ r ≡ 23 * length (chunks 4 (now (job .entry))) ⌝ }
-    ensures { λ r. ⌜ now (output .exit) ≡ sets (now (output .entry)) 0 (countedFrames 0 0 (chunks 4 (now (job .entry))) (now (recipe .entry))) ⌝ }
+    requires { ⌜ length (now job) ≤ longestJob ⌝ }
+    requires { ⌜ length (chunks window (now job)) ≤ length (now recipe) ⌝ }
+    requires { ⌜ frameBytes * length (chunks window (now job)) ≤ length (now output) ⌝ }
+    ensures { λ r. ⌜ r ≡ frameBytes * length (chunks window (now (job .entry))) ⌝ }
+    ensures { λ r. ⌜ now (output .exit) ≡ sets (now (output .entry)) 0 (countedFrames 0 0 (chunks window (now (job .entry))) (now (recipe .entry))) ⌝ }
 {
     let mut next = 0;
     let mut used = 0;
     let mut at = 0;
     while at < job.len() {
-        let size = chunker::next_chunk(4, &job[at..]);
+        let size = chunker::next_chunk(WINDOW, &job[at..]);
         let number = recipe[used];
         let new = mark(ChunkNumber(number), ChunkNumber(next));
         text::chunk_frame(
             output,
-            23 * used,
+            FRAME_BYTES * used,
             ChunkNumber(number),
             JobPosition(at as u32),
             size as u32,
@@ -44,5 +47,5 @@ pub fn frames(job: &[u8], recipe: &[u32], output: &mut [u8]) -> usize
         used += 1;
         at += size;
     }
-    23 * used
+    FRAME_BYTES * used
 }

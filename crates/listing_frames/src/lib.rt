@@ -1,40 +1,62 @@
-// The listing of a job: a frame for each of its chunks, and a last frame with the counts.
+// The listing of a job: one frame per chunk, and a last frame with the counts.
 ghost use mathlib.Core.Path.{_≡_};
-ghost use mathlib.Core.List.{_++_};
-ghost use lib.ListN.{length, drop};
-ghost use Rattle.listing_frames.specs.Frames.{listing};
+ghost use Rattle.listing_frames.specs.Frames.{refusedFrame, written, listed};
 
 mod chunks;
 mod text;
 
 use refusal::Refusal;
-
-// A frame for each place of the recipe, and the last one, of 23 bytes each.
-pub const OUTPUT_BYTES: usize = 23575;
+use text::FRAME_BYTES;
 
 // A longer job is refused by ground 3.
-const LONGEST_JOB: usize = 16384;
+pub const LONGEST_JOB: usize = 16384;
 
-// Writes the frames of a job that is admitted to a fresh store of window 4, and tells how many bytes
-// they are.
-pub fn frames(job: &[u8], output: &mut [u8; OUTPUT_BYTES]) -> usize
-    ensures { λ r. ⌜ r ≡ length (listing (now (job .entry))) ⌝ }
-    ensures { λ r. ⌜ now (output .exit) ≡ listing (now (job .entry)) ++ drop (length (listing (now (job .entry)))) (now (output .entry)) ⌝ }
+// The window of the store that a job is admitted to, the bytes of its pool, the numbers of its directory of
+// 1,024 entries, and the places of the recipe.
+const WINDOW: u32 = 4;
+
+const POOL_BYTES: usize = 32768;
+
+const DIRECTORY_NUMBERS: usize = 1024 * directory::STRIDE;
+
+const RECIPE_PLACES: usize = 1024;
+
+// One frame per place of the recipe, and the last one.
+pub const OUTPUT_BYTES: usize = (RECIPE_PLACES + 1) * FRAME_BYTES;
+
+// The refusal of a job, and how many bytes of frames were written.
+pub struct Listed {
+    pub refusal: Refusal,
+    pub written: usize,
+}
+
+// Writes the one frame of a refused job.
+fn refused(output: &mut [u8; OUTPUT_BYTES], refusal: Refusal) -> Listed
+    ensures { λ r. ⌜ record { answer = r; output = now (output .exit) } ≡ written refusal (refusedFrame refusal) (now (output .entry)) ⌝ }
+{
+    let written = text::last_frame(output, 0, 0, 0, refusal);
+    Listed { refusal, written }
+}
+
+// Writes the frames of a job that is admitted to a fresh store. Refused by ground 3 over `LONGEST_JOB`,
+// and else as its admission is.
+pub fn frames(job: &[u8], output: &mut [u8; OUTPUT_BYTES]) -> Listed
+    ensures { λ r. ⌜ record { answer = r; output = now (output .exit) } ≡ listed (now (job .entry)) (now (output .entry)) ⌝ }
 {
     if LONGEST_JOB < job.len() {
-        return text::last_frame(output, 0, 0, 0, Refusal::JobLength);
+        return refused(output, Refusal::JobLength);
     }
-    // 1,024 entries of two numbers each, and 1,024 recipe places.
-    let mut pool = [0u8; 32768];
-    let mut directory = [0u32; 2048];
-    let mut recipe = [0u32; 1024];
-    let opened = store::open(4);
+    let mut pool = [0u8; POOL_BYTES];
+    let mut directory = [0u32; DIRECTORY_NUMBERS];
+    let mut recipe = [0u32; RECIPE_PLACES];
+    let opened = store::open(WINDOW);
     let head = opened.head;
-    let admitted = store::admit(head, &mut pool, &mut directory, &mut recipe, job);
+    let admitted = admission::admit(head, &mut pool, &mut directory, &mut recipe, job);
     let refusal = admitted.refusal;
     if !refusal::accepted(refusal) {
-        return text::last_frame(output, 0, 0, 0, refusal);
+        return refused(output, refusal);
     }
     let end = chunks::frames(job, &recipe, output);
-    text::last_frame(output, end, admitted.new_bytes, job.len() as u32, refusal)
+    let written = text::last_frame(output, end, admitted.new_bytes, job.len() as u32, refusal);
+    Listed { refusal, written }
 }

@@ -3,10 +3,13 @@ ghost use mathlib.Core.Path.{_≡_};
 ghost use Prim.Native.Nat.{_+_, _≤_, _<_};
 ghost use lib.ListN.{length};
 ghost use lib.Seq.{sets};
-ghost use Rattle.listing_frames.specs.Frames.{digit, hex, frame, lastFrame};
+ghost use Rattle.listing_frames.specs.Frames.{frameBytes, digit, hex, frame, lastFrame};
 use refusal::Refusal;
 use store::ChunkNumber;
 use store::JobPosition;
+
+// The bytes of a frame: 22 digits and a line feed.
+pub const FRAME_BYTES: usize = 23;
 
 // The character of a hexadecimal digit, in upper case.
 fn digit(value: u32) -> u8
@@ -42,8 +45,8 @@ fn write_frame(
     size: u32,
     mark: u8,
 ) -> usize
-    requires { ⌜ at + 23 ≤ length (now output) ⌝ }
-    ensures { λ r. ⌜ r ≡ at + 23 ⌝ }
+    requires { ⌜ at + frameBytes ≤ length (now output) ⌝ }
+    ensures { λ r. ⌜ r ≡ at + frameBytes ⌝ }
     ensures { λ _. ⌜ now (output .exit) ≡ sets (now (output .entry)) at (frame number position size mark) ⌝ }
 {
     write_hex(output, at, 4, number);
@@ -51,7 +54,7 @@ fn write_frame(
     write_hex(output, at + 12, 8, size);
     write_hex(output, at + 20, 2, mark as u32);
     output[at + 22] = 10;
-    at + 23
+    at + FRAME_BYTES
 }
 
 // The frame of a chunk.
@@ -63,8 +66,8 @@ pub fn chunk_frame(
     size: u32,
     mark: u8,
 ) -> usize
-    requires { ⌜ at + 23 ≤ length (now output) ⌝ }
-    ensures { λ r. ⌜ r ≡ at + 23 ⌝ }
+    requires { ⌜ at + frameBytes ≤ length (now output) ⌝ }
+    ensures { λ r. ⌜ r ≡ at + frameBytes ⌝ }
     ensures { λ _. ⌜ now (output .exit) ≡ sets (now (output .entry)) at (frame (number .0) (position .0) size mark) ⌝ }
 {
     write_frame(output, at, number.0, position.0, size, mark)
@@ -78,8 +81,8 @@ pub fn last_frame(
     job_length: u32,
     refusal: Refusal,
 ) -> usize
-    requires { ⌜ at + 23 ≤ length (now output) ⌝ }
-    ensures { λ r. ⌜ r ≡ at + 23 ⌝ }
+    requires { ⌜ at + frameBytes ≤ length (now output) ⌝ }
+    ensures { λ r. ⌜ r ≡ at + frameBytes ⌝ }
     ensures { λ _. ⌜ now (output .exit) ≡ sets (now (output .entry)) at (lastFrame «new_bytes» «job_length» refusal) ⌝ }
 {
     write_frame(

@@ -1,8 +1,2 @@
-pub mod Parts
-pub mod StagedParts
-pub mod Recipes
-pub mod FoundChunks
-pub mod ChunksWritten
-pub mod RebuildGround
-pub mod GivesBack
-pub mod Covering
+-- laws/RebuildGround has the grounds of a rebuilding, test by test; the other laws serve the loops that count and write.
+pub mod laws

@@ -4,12 +4,16 @@ ghost use mathlib.Core.Bool.{true};
 ghost use Prim.Native.Nat.{_≤_};
 ghost use lib.ListN.{length};
 ghost use Rattle.refusal.specs.Number.{accepted};
-ghost use Rattle.rebuild.specs.Rebuilding.{rebuiltBytes, Found, allBelow, rebuildGround};
+ghost use Rattle.rebuild.specs.Rebuilding.{rebuiltBytes, rebuildGround};
+ghost use Rattle.rebuild.specs.internal.Located.{Located};
+ghost use Rattle.store.specs.Grounds.{allBelow};
+ghost use Rattle.store.specs.Limits.{poolLimit, recipeLimit};
+use directory::STRIDE;
 use refusal::Refusal;
 use store::ChunkNumber;
 use store::Head;
 
-// Ground 9 holds of no number of a recipe. All are tested, so that the compiler tests several at once.
+// Whether every number of a recipe has a chunk (ground 9). All are tested, so that the compiler vectorises it.
 fn all_below(chunks: ChunkNumber, recipe: &[u32]) -> bool
     ensures { λ r. ⌜ r ≡ allBelow (chunks .0) (now (recipe .entry)) ⌝ }
 {
@@ -26,18 +30,18 @@ fn all_below(chunks: ChunkNumber, recipe: &[u32]) -> bool
     below
 }
 
-// The length of a rebuilt job, which 32 bits need not hold.
+// The length of a rebuilt job, which may exceed 32 bits.
 fn rebuilt_length(pool: &[u8], directory: &[u32], recipe: &[u32]) -> u64
-    requires { ⌜ length (now pool) ≤ 67108864 ⌝ }
-    requires { ⌜ length (now recipe) ≤ 65535 ⌝ }
-    requires { ⌜ Found (now pool) (now directory) (now recipe) ⌝ }
+    requires { ⌜ length (now pool) ≤ poolLimit ⌝ }
+    requires { ⌜ length (now recipe) ≤ recipeLimit ⌝ }
+    requires { ⌜ Located (now pool) (now directory) (now recipe) ⌝ }
     ensures { λ r. ⌜ r ≡ length (rebuiltBytes (now (pool .entry)) (now (directory .entry)) (now (recipe .entry))) ⌝ }
 {
     let mut total: u64 = 0;
     let mut i = 0;
     while i < recipe.len() {
         let number = ChunkNumber(recipe[i]);
-        let at = number.0 as usize * 2 + 1;
+        let at = number.0 as usize * STRIDE + 1;
         total += directory[at] as u64;
         i += 1;
     }
@@ -52,33 +56,32 @@ pub struct Tested {
 
 // A ground that holds, with no length.
 fn refused(refusal: Refusal) -> Tested
-    ensures { λ r. ⌜ r .refusal ≡ refusal ⌝ }
-    ensures { λ r. ⌜ r .total ≡ 0 ⌝ }
+    ensures { λ r. ⌜ r ≡ record { refusal = refusal; total = 0 } ⌝ }
 {
     Tested { refusal, total: 0 }
 }
 
-// The first of the grounds 1, 4, 5, 9 and 10 that holds. A recipe over its limit is ground 4, so it
-// is tested before ground 5.
-pub fn of_rebuilding(
+// The first of the grounds 1, 4, 5, 9 and 10 that holds, if any. A recipe over its limit is ground 4, so it
+// is tested before the store's grounds.
+pub fn rebuild_ground(
     head: Head,
     pool: &[u8],
     directory: &[u32],
     recipe: &[u32],
     output: &[u8],
 ) -> Tested
-    ensures { λ r. ⌜ r .refusal ≡ rebuildGround head (now (pool .entry)) (now (directory .entry)) (now (recipe .entry)) (now (output .entry)) ⌝ }
-    ensures { λ r. ⌜ (accepted (r .refusal) ≡ true → r .total ≡ length (rebuiltBytes (now (pool .entry)) (now (directory .entry)) (now (recipe .entry)))) ⌝ }
+    ensures ground { λ r. ⌜ r .refusal
+        ≡ rebuildGround head (now (pool .entry)) (now (directory .entry)) (now (recipe .entry)) (now (output .entry)) ⌝ }
+    ensures counted { λ r. ⌜ (accepted (r .refusal) ≡ true
+        → r .total ≡ length (rebuiltBytes (now (pool .entry)) (now (directory .entry)) (now (recipe .entry)))) ⌝ }
 {
-    let scanner = chunker::open(head.window);
-    let refusal = scanner.refusal;
-    if !refusal::accepted(refusal) {
-        return refused(refusal);
+    if !chunker::window_allowed(head.window) {
+        return refused(Refusal::Window);
     }
-    if 65535 < recipe.len() {
+    if !store::recipe_allowed(recipe) {
         return refused(Refusal::MemoryLimit);
     }
-    let ground = store::refusal_of(head, pool, directory);
+    let ground = store::store_ground(head, pool, directory);
     if !refusal::accepted(ground) {
         return refused(ground);
     }

@@ -3,12 +3,13 @@ ghost use mathlib.Core.Path.{_≡_};
 ghost use mathlib.Core.List.{_++_};
 ghost use Prim.Native.Nat.{_≤_};
 ghost use lib.ListN.{length, drop};
-ghost use Rattle.rebuild.specs.Rebuilding.{rebuiltBytes, Found, rebuilt};
+ghost use Rattle.rebuild.specs.Rebuilding.{rebuiltBytes, rebuilt};
+ghost use Rattle.rebuild.specs.internal.Located.{Located};
 
-mod copying;
 mod grounds;
 mod staging;
 
+use directory::STRIDE;
 use refusal::Refusal;
 use store::ChunkNumber;
 use store::Head;
@@ -29,10 +30,10 @@ pub fn rebuild(
     recipe: &[u32],
     output: &mut [u8],
 ) -> Rebuilt
-    ensures { λ r. ⌜ r ≡ rebuilt head (now (pool .entry)) (now (directory .entry)) (now (recipe .entry)) (now (output .entry)) .answer ⌝ }
-    ensures { λ r. ⌜ now (output .exit) ≡ rebuilt head (now (pool .entry)) (now (directory .entry)) (now (recipe .entry)) (now (output .entry)) .output ⌝ }
+    ensures { λ r. ⌜ record { answer = r; output = now (output .exit) }
+        ≡ rebuilt head (now (pool .entry)) (now (directory .entry)) (now (recipe .entry)) (now (output .entry)) ⌝ }
 {
-    let tested = grounds::of_rebuilding(head, pool, directory, recipe, output);
+    let tested = grounds::rebuild_ground(head, pool, directory, recipe, output);
     let refusal = tested.refusal;
     if !refusal::accepted(refusal) {
         return Rebuilt {
@@ -49,16 +50,17 @@ pub fn rebuild(
 
 // Writes a recipe's chunks, `total` bytes in all, to an output that has room for them.
 fn write_chunks(pool: &[u8], directory: &[u32], recipe: &[u32], output: &mut [u8], total: usize)
-    requires { ⌜ Found (now pool) (now directory) (now recipe) ⌝ }
+    requires { ⌜ Located (now pool) (now directory) (now recipe) ⌝ }
     requires { ⌜ total ≡ length (rebuiltBytes (now pool) (now directory) (now recipe)) ⌝ }
     requires { ⌜ total ≤ length (now output) ⌝ }
-    ensures { λ _. ⌜ now (output .exit) ≡ rebuiltBytes (now (pool .entry)) (now (directory .entry)) (now (recipe .entry)) ++ drop total (now (output .entry)) ⌝ }
+    ensures { λ _. ⌜ now (output .exit)
+        ≡ rebuiltBytes (now (pool .entry)) (now (directory .entry)) (now (recipe .entry)) ++ drop total (now (output .entry)) ⌝ }
 {
     let mut at = 0;
     let mut i = 0;
     while i < recipe.len() {
         let number = ChunkNumber(recipe[i]);
-        let entry = number.0 as usize * 2;
+        let entry = number.0 as usize * STRIDE;
         let from = PoolOffset(directory[entry]);
         let size = directory[entry + 1] as usize;
         staging::copy_chunk(output, at, total, pool, from, size);

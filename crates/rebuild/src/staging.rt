@@ -2,9 +2,8 @@
 ghost use mathlib.Core.Path.{_≡_};
 ghost use Prim.Native.Nat.{_+_, _≤_};
 ghost use lib.ListN.{length, take, drop};
-ghost use Rattle.store.specs.Filling.{written};
-ghost use Rattle.rebuild.specs.Covered.{Covered};
-use crate::copying;
+ghost use Rattle.copying.specs.Written.{written};
+ghost use Rattle.rebuild.specs.internal.Covered.{Covered};
 use store::PoolOffset;
 
 // Writes bytes to a place of the output, through a buffer that has room for them.
@@ -13,9 +12,9 @@ fn copy_part(staging: &mut [u8], output: &mut [u8], at: usize, part: &[u8])
     requires { ⌜ at + length (now part) ≤ length (now output) ⌝ }
     ensures { λ _. ⌜ now (output .exit) ≡ written (now (output .entry)) at (now (part .entry)) ⌝ }
 {
-    copying::copy(staging, 0, part);
+    copying::copy_bytes(staging, 0, part);
     let size = part.len();
-    copying::copy(output, at, &staging[..size]);
+    copying::copy_bytes(output, at, &staging[..size]);
 }
 
 // Writes a chunk to a place of the output, at most 256 bytes at a time.
@@ -55,8 +54,8 @@ fn copy_128(output: &mut [u8], at: usize, pool: &[u8], from: usize)
 }
 
 // Writes a chunk of the pool to a place of the output. Past the chunk it may write any bytes up to `end`, the
-// job's end: the chunks that follow are written over them. So for a short chunk 64 or 128 bytes are moved at
-// once, and little depends on its length.
+// job's end: the chunks that follow are written over them. So a short chunk is one fixed-size
+// move.
 pub fn copy_chunk(
     output: &mut [u8],
     at: usize,

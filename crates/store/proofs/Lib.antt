@@ -1,24 +1,3 @@
-pub mod Sameness
-pub mod Numbering
-pub mod Growth
-pub mod Entries
-pub mod Writing
-pub mod ChunkTaken
-pub mod ChunksTaken
-pub mod Outcomes
-pub mod Admissions
-pub mod Appearances
-pub mod History
-pub mod Promise
-pub mod Lengths
-pub mod ChunkOfNumber
-pub mod LaidOut
-pub mod Copying
-pub mod Stretches
-pub mod Candidates
-pub mod Searching
-pub mod Saving
-pub mod Steps
-pub mod Admitting
-pub mod StarredJobs
-pub mod Examples
+-- laws/contents has the laws of the store as a list of chunks, laws/grounds those of a directory's layout and of the grounds,
+-- laws/Memory and laws/ChunkOfNumber lead from pool and directory to the list of chunks.
+pub mod laws

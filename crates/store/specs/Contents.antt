@@ -1,23 +1,10 @@
--- The chunks that a store holds, and the number that a chunk has or gets.
-use Prim.Native.Nat.{ℕ, zero, suc}
-use mathlib.Core.Bool.{Bool, true, false, cond, _&&_}
-use mathlib.Core.List.{List, [], _∷_}
+-- The store as a list of chunks: the number that a chunk has or gets, and what a job's chunks add.
+use Prim.Native.Nat.{ℕ, suc, _+_, _<_}
+use mathlib.Core.Path.{_≡_}
+use mathlib.Core.Bool.{Bool, true, false, cond, _&&_, _||_}
+use mathlib.Core.List.{List, [], _∷_, _++_}
 use lib.Dec.{eqb}
-use lib.ListN.{take, drop}
-use Rattle.store.specs.Directory.{offsetAt, lengthAt}
-
--- the piece's own stretch of the pool
-abbrev pub chunkAt : List ℕ → List ℕ → ℕ → List ℕ
-chunkAt pool directory i = take (lengthAt directory i) (drop (offsetAt directory i) pool)
-
--- the chunks of the n entries from entry i on
-unfoldable pub chunksFrom : List ℕ → List ℕ → ℕ → ℕ → List (List ℕ)
-chunksFrom pool directory i zero = []
-chunksFrom pool directory i (suc n) = chunkAt pool directory i ∷ chunksFrom pool directory (suc i) n
-
--- the first n chunks of a store, in the order of their numbers
-abbrev pub contents : List ℕ → List ℕ → ℕ → List (List ℕ)
-contents pool directory n = chunksFrom pool directory 0 n
+use lib.ListN.{length, getD}
 
 -- "the same length and bytes"
 unfoldable pub same : List ℕ → List ℕ → Bool
@@ -30,3 +17,26 @@ same (b ∷ bs) (c ∷ cs) = eqb b c && same bs cs
 unfoldable pub number : List (List ℕ) → List ℕ → ℕ
 number [] c = 0
 number (d ∷ ds) c = let later = suc (number ds c) in cond (same d c) 0 later
+
+-- a chunk is among chunks
+unfoldable pub has : List (List ℕ) → List ℕ → Bool
+has [] c = false
+has (d ∷ ds) c = same d c || has ds c
+
+-- a chunk is added at the end unless it is there
+unfoldable pub gain : List (List ℕ) → List ℕ → List (List ℕ)
+gain held c = cond (has held c) held (held ++ (c ∷ []))
+
+-- the store after chunks in order
+unfoldable pub grown : List (List ℕ) → List (List ℕ) → List (List ℕ)
+grown held [] = held
+grown held (c ∷ cs) = grown (gain held c) cs
+
+-- the bytes that chunks add
+unfoldable pub gained : List (List ℕ) → List (List ℕ) → ℕ
+gained held [] = 0
+gained held (c ∷ cs) = cond (has held c) 0 (length c) + gained (gain held c) cs
+
+-- no two of the chunks are equal: each is found at its own place
+abbrev pub Distinct : List (List ℕ) → Type 0
+Distinct held = (p : ℕ) → p < length held → number held (getD held p []) ≡ p

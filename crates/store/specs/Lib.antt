@@ -1,9 +1,10 @@
-pub mod Directory
+-- Contents is the store as a list of chunks; Memory says which chunks pool and directory hold, Directory how they are laid
+-- out. Opening, Grounds and Looking say what each function answers. In internal/ is what only contracts of layers cite.
+pub mod Limits
 pub mod Contents
-pub mod Candidates
-pub mod Filling
-pub mod Ready
-pub mod Admission
+pub mod Directory
+pub mod Memory
+pub mod Opening
+pub mod Grounds
 pub mod Looking
-pub mod History
-pub mod Promise
+pub mod internal

@@ -4,11 +4,11 @@ use mathlib.Core.Path.{_≡_, sym, ap, _∙_}
 use borrow.Author.Needs.{needs}
 use borrow.Author.Tests.{not-true, not-false}
 use lib.ListN.{length}
-use Rattle.chunker.specs.Scanner.{fresh}
-use Rattle.chunker.proofs.Soundness.{opened-fresh}
-use Rattle.chunker.proofs.Opening.{opened-accepted}
+use Rattle.scan.specs.Scanner.{fresh}
+use Rattle.chunker.proofs.laws.ground.Soundness.{opened-fresh}
+use Rattle.chunker.proofs.laws.Opening.{opened-accepted}
 use Rattle.chunk_count.specs.ChunkCount.{chunkCount}
-use Rattle.chunk_count.proofs.Counting.{Counted, Turned, sets-out, counts-one, stops}
+use Rattle.chunk_count.proofs.laws.Counting.{Counted, Turned, sets-out, counts-one, stops}
 use Rattle.chunk_count.proofs.hirunvel_chunk_count.Statement.{statement}
 use Rattle.chunk_count.proofs.hirunvel_chunk_count.Tie as tie
 

@@ -4,14 +4,15 @@ use mathlib.Core.Path.{_≡_, sym, _∙_}
 use borrow.Author.Needs.{needs}
 use borrow.Author.Tests.{not-true, not-false}
 use Rattle.refusal.specs.declared.Refusal.the-variants.{Accepted}
-use Rattle.chunker.specs.Scanner.{fresh, groundOf}
-use Rattle.chunker.proofs.Soundness.{fed-accepted, fed-window, fresh-ground}
-use Rattle.chunker.proofs.Scanning.{stays}
+use Rattle.scan.specs.Scanner.{fresh}
+use Rattle.chunker.specs.Scanner.{scannerGround}
+use Rattle.chunker.proofs.laws.ground.Soundness.{window-bounds, fed-accepted, fed-window, fresh-ground}
+use Rattle.scan.proofs.laws.run.Scanning.{stays}
 use Rattle.chunker.proofs.feed_fresh.Statement.{statement}
 use Rattle.chunker.proofs.feed_fresh.Tie as tie
 
 -- an allowed window's fresh scanner is accepted
-ground : (c : tie.Else1) → groundOf (fresh (c .before .before .before .args .window)) ≡ Accepted
+ground : (c : tie.Else1) → scannerGround (fresh (c .before .before .before .args .window)) ≡ Accepted
 ground c = fresh-ground _ (sym (c .before .window-allowed .ensures) ∙ not-false _ (c .if1 .left))
 
 window-allowed-requires : tie.Need-window-allowed-requires
@@ -35,7 +36,8 @@ returns-2 c =
 
 from-start-requires : tie.Need-from-start-requires
 from-start-requires c κs =
-    (sym (c .before .before .window-allowed .ensures) ∙ not-false _ (c .before .if1 .left), omega arith)
+    let b = window-bounds _ (sym (c .before .before .window-allowed .ensures) ∙ not-false _ (c .before .if1 .left)) in
+    (b .0, (b .1, omega arith))
 
 returns-3 : tie.Need-returns-3
 returns-3 c =

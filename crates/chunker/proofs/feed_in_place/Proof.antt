@@ -41,13 +41,13 @@ use denote.Triple.Statement.{Contract, Triple}
 use denote.Triple.Table.{entered, cited}
 use denote.Triple.Walked.{says, Stays, stay-ref, stay-dropped, walkOf, goes-dropped, goes-ref, Walks, ends-at, walked, walk-meets}
 use denote.Exit.{yes}
-use Rattle.chunker.specs.Answers.{fed}
-use Rattle.chunker.specs.declared.Scanner.{Scanner}
-use Rattle.chunker.specs.declared.Fed.{Fed}
-use Rattle.chunker.proofs.Scanner as S
-use Rattle.chunker.proofs.Scanner.Laws as S′
-use Rattle.chunker.proofs.Fed as F
-use Rattle.chunker.proofs.Fed.Laws as F′
+use Rattle.chunker.specs.Answers.{fed, FedInPlace}
+use Rattle.scan.specs.declared.Scanner.{Scanner}
+use Rattle.scan.specs.declared.Fed.{Fed}
+use Rattle.scan.proofs.Scanner as S
+use Rattle.scan.proofs.Scanner.Laws as S′
+use Rattle.scan.proofs.Fed as F
+use Rattle.scan.proofs.Fed.Laws as F′
 use Rattle.chunker.proofs.feed as feed
 use Rattle.chunker.proofs.feed.Symbol as feed-def
 use Rattle.chunker.proofs.feed.Symbol.{name as #chunker·feed}
@@ -74,6 +74,10 @@ scanner-vals = LL.vals S.the-type S′.the-laws
 
 abbrev answer-vals : Fed → List Val
 answer-vals = LL.vals F.the-type F′.the-laws
+
+-- what is stated of an answer: itself, and its scanner behind the reference
+abbrev in-place-of : Fed → FedInPlace
+in-place-of r = record { answer = r; scanner = r .scanner }
 
 -- an answer in memory is the one that its fields spell, and its scanner is one
 answer-is : (r : Fed) (vs : List Val) → Is F.the-row r vs → Is F.the-row r (answer-vals r)
@@ -138,7 +142,7 @@ module _ {M : Type 1} (𝓤 : URA M) (H : Heap 𝓤) (A : Atoms 𝓤) (W : Given
       qed W (Left r) ∵
       suffices ! _ (ends-at 𝓤 H A in-place.ended stayed (in-place.clauses 𝓤 H A at-mem run) W
       (((κ, (κ′, tt)), (q, (q′, tt)), tt, x, at), tt) (only (answer-vals r)) r (r .scanner, (tt, tt)) (tt, (tt, tt))) $
-      says ! (e, ap (λ (a : Fed). a .scanner) e) $
+      says ! (ap in-place-of e) $
       move ! (2 ∷ 3 ∷ []) $ join ! $ frame ! $
       feqI ! (List Val) (vptr b o ∷ []) (vptr b o ∷ []) refl $ fjoin3 ! $
       nothing ! $ nothing ! $ fjoin ! $ move ! (1 ∷ 0 ∷ []) $ fjoin ! $ frame ! $

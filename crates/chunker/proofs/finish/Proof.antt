@@ -7,8 +7,8 @@ use Rattle.chunker.specs.Answers.{finished}
 use Rattle.chunker.proofs.finish.Statement.{statement}
 use Rattle.chunker.proofs.finish.Tie as tie
 
-of-requires : tie.Need-of-requires
-of-requires c κs = search needs
+scanner-ground-requires : tie.Need-scanner-ground-requires
+scanner-ground-requires c κs = search needs
 
 accepted-requires : tie.Need-accepted-requires
 accepted-requires c κs = search needs
@@ -16,7 +16,7 @@ accepted-requires c κs = search needs
 returns : tie.Need-returns
 unfolding finished
 returns c =
-    let ground = c .before .before .of .ensures in
+    let ground = c .before .before .scanner-ground .ensures in
     rw (ground, sym (ap accepted ground) ∙ (sym (c .before .accepted .ensures) ∙ not-true _ (c .if1 .taken)))
 
 fresh-requires : tie.Need-fresh-requires
@@ -25,7 +25,7 @@ fresh-requires c κs = search needs
 returns-2 : tie.Need-returns-2
 unfolding finished
 returns-2 c =
-    let ground = c .before .before .before .of .ensures in
+    let ground = c .before .before .before .scanner-ground .ensures in
     rw (
       c .fresh .ensures,
       ground,
@@ -33,4 +33,4 @@ returns-2 c =
     )
 
 pub finish-spec : {M : Type 1} → statement M
-finish-spec = tie.close (tie.spec of-requires accepted-requires returns fresh-requires returns-2)
+finish-spec = tie.close (tie.spec scanner-ground-requires accepted-requires returns fresh-requires returns-2)

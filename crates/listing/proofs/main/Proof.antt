@@ -1,9 +1,10 @@
--- `listing::main` is safe and ends: what is lent are parts of the two buffers.
+-- `listing::main` is safe and terminates: it lends parts of its two buffers.
 use native.Mathlib.Omega.{arith}
 use mathlib.Core.Path.{sym, ap}
 use borrow.Author.Needs.{needs}
 use lib.ListN.{length, length-append}
 use lib.Seq.{length-take-le}
+use Rattle.listing_frames.specs.Frames.{listed}
 use Rattle.listing.proofs.main.Statement.{statement}
 use Rattle.listing.proofs.main.Tie as tie
 
@@ -22,28 +23,24 @@ slice-aggregate-frames c = sym (length-take-le _ _ (c .before .before .read-job 
 frames-requires : tie.Need-frames-requires
 frames-requires c κs = search needs
 
+-- the frames stand at the front of the output
 array-share-prefix-output : tie.Need-array-share-prefix-output
+unfolding listed
 array-share-prefix-output c =
     let frames = c .frames .ensures in
-    omega (arith, frames .0, simp length-append at (ap length (frames .1)))
+    omega (arith, ap (λ l. l .answer .written) frames, simp length-append at (ap (λ l. length (l .output)) frames))
 
-slice-aggregate-write-all : tie.Need-slice-aggregate-write-all
-slice-aggregate-write-all c = sym (length-take-le _ _ (array-share-prefix-output (c .before)))
+slice-aggregate-print : tie.Need-slice-aggregate-print
+slice-aggregate-print c = sym (length-take-le _ _ (array-share-prefix-output (c .before)))
 
-write-all-requires : tie.Need-write-all-requires
-write-all-requires c κs = search needs
+print-requires : tie.Need-print-requires
+print-requires c κs = search needs
 
-slice-aggregate-fail : tie.Need-slice-aggregate-fail
-slice-aggregate-fail c = search needs
-
-fail-requires : tie.Need-fail-requires
-fail-requires c κs = search needs
+tell-refusal-requires : tie.Need-tell-refusal-requires
+tell-refusal-requires c κs = search needs
 
 returns : tie.Need-returns
 returns c = search needs
-
-returns-2 : tie.Need-returns-2
-returns-2 c = search needs
 
 pub main-spec : {M : Type 1} → statement M
 main-spec =
@@ -55,9 +52,7 @@ main-spec =
     slice-aggregate-frames
     frames-requires
     array-share-prefix-output
-    slice-aggregate-write-all
-    write-all-requires
-    slice-aggregate-fail
-    fail-requires
-    returns
-    returns-2)
+    slice-aggregate-print
+    print-requires
+    tell-refusal-requires
+    returns)

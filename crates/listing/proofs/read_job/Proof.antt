@@ -1,4 +1,4 @@
--- `listing::read_job` meets its contract: each turn brings some bytes, so that fewer are left to read.
+-- `listing::read_job` meets its contract: each iteration brings some bytes, so that fewer are left to read.
 use Prim.Native.Nat.{_-_, _≤_}
 use native.Mathlib.Omega.{arith}
 use mathlib.Core.Path.{_≡_}

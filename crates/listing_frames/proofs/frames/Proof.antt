@@ -6,22 +6,18 @@ use mathlib.Core.List.{List}
 use borrow.Author.Needs.{needs}
 use borrow.Author.Tests.{not-true, not-false}
 use lib.ListN.{length, replicate}
-use Rattle.refusal.specs.declared.Refusal.the-variants.{JobLength}
-use Rattle.store.specs.Admission.{Admission}
-use Rattle.chunker.proofs.Soundness.{all-bytes}
-use Rattle.listing_frames.specs.Frames.{outcome, admittedFrames, listing}
-use Rattle.listing_frames.proofs.Listed.{Accepts, accepts, comes-to, long-listing, short-listing, one-stands, all-stand}
+use Rattle.chunker.proofs.laws.ground.Soundness.{all-bytes}
+use Rattle.admission.specs.Admission.{Admission}
+use Rattle.listing_frames.specs.Frames.{poolBytes, directoryNumbers, recipePlaces, outcome, admittedFrames, written, listed}
+use Rattle.listing_frames.proofs.laws.Listed.{Accepts, accepts, fresh-head, long-listed, short-listed, all-stand}
 use Rattle.listing_frames.proofs.frames.Statement.{statement}
 use Rattle.listing_frames.proofs.frames.Tie as tie
 
-last-frame-requires : tie.Need-last-frame-requires
-last-frame-requires c κs = search needs
+refused-requires : tie.Need-refused-requires
+refused-requires c κs = search needs
 
 returns : tie.Need-returns
-returns c =
-    let long = long-listing (c .before .before .before .before .args .job .now) (c .before .before .if1 .taken) in
-    let last = c .last-frame .ensures in
-    one-stands _ _ _ _ JobLength long (omega (arith, c .before .last-frame-arg .given .0 .1)) (last .0) (last .1)
+returns c = c .refused .ensures ∙ sym (long-listed _ _ (c .before .before .if1 .taken))
 
 open-requires : tie.Need-open-requires
 open-requires c κs = search needs
@@ -56,32 +52,29 @@ left-by c =
 came : (c : tie.After-admit) → left-by c ≡ outcome (job c)
 came c =
     let opening = c .before .before .before .before .before .«open» in
-    let e = c .admit .ensures in
-    comes-to (opening .result) (replicate 32768 0) (replicate 2048 0) (replicate 1024 0) (job c) (opening .ensures)
-    (left-by c) (e .0) (e .1 .0) (e .1 .1 .0) (e .1 .1 .1)
+    rw (fresh-head (opening .result) (opening .ensures)) at (c .admit .ensures)
 
 -- so are its frames
-listed : (c : tie.After-admit) → listing (job c) ≡ admittedFrames (job c) (left-by c)
-listed c =
-    short-listing (job c) (c .before .before .before .before .before .before .if1 .left) (left-by c) (came c)
+comes : (c : tie.After-admit) (output : List ℕ)
+    → listed (job c) output ≡ written (left-by c .answer .refusal) (admittedFrames (job c) (left-by c)) output
+comes c output =
+    short-listed (job c) output (c .before .before .before .before .before .before .if1 .left) (left-by c) (came c)
 
 -- the lent recipe keeps its places
-places : (c : tie.After-admit) → length (left-by c .recipe) ≡ 1024
+places : (c : tie.After-admit) → length (left-by c .recipe) ≡ recipePlaces
 places c = omega (arith, c .admit .kept .1 .1 .1 .0)
 
 accepted-requires : tie.Need-accepted-requires
 accepted-requires c κs = search needs
 
-last-frame-requires-2 : tie.Need-last-frame-requires-2
-last-frame-requires-2 c κs = search needs
+refused-requires-2 : tie.Need-refused-requires-2
+refused-requires-2 c κs = search needs
 
 returns-2 : tie.Need-returns-2
 returns-2 c =
     let admitted = c .before .before .before .before .before .before .before in
-    let refused = sym (c .before .before .before .accepted .ensures) ∙ not-true _ (c .before .before .if2 .taken) in
-    let last = c .last-frame2 .ensures in
-    one-stands _ _ _ _ (left-by admitted .answer .refusal) (listed admitted ∙ rw refused)
-    (omega (arith, c .before .last-frame-arg2 .given .0 .1)) (last .0) (last .1)
+    let turned-away = sym (c .before .before .before .accepted .ensures) ∙ not-true _ (c .before .before .if2 .taken) in
+    c .refused2 .ensures ∙ sym (comes admitted _ ∙ rw turned-away)
 
 slice-aggregate-frames : tie.Need-slice-aggregate-frames
 slice-aggregate-frames c = search needs
@@ -94,7 +87,7 @@ accepting c =
     let admitted = c .before .before .before .before .before in
     let done = sym (c .before .accepted .ensures) ∙ not-false _ (c .if2 .left) in
     let known = admitted .before .before .before .before .before .before .before .shared-slice-known .given in
-    accepts (replicate 32768 0) (replicate 2048 0) (replicate 1024 0) (job admitted)
+    accepts (replicate poolBytes 0) (replicate directoryNumbers 0) (replicate recipePlaces 0) (job admitted)
     (all-bytes (job admitted) (λ i. known i .fits)) (left-by admitted) (came admitted) done
 
 frames-requires : tie.Need-frames-requires
@@ -107,11 +100,11 @@ frames-requires c κs =
 cast-last-frame : tie.Need-cast-last-frame
 cast-last-frame c = search needs
 
-last-frame-requires-3 : tie.Need-last-frame-requires-3
-last-frame-requires-3 c κs =
+last-frame-requires : tie.Need-last-frame-requires
+last-frame-requires c κs =
     let admitted = c .before .before .before .before .before .before .before .before .before in
     let k = accepting (c .before .before .before .before) .enough in
-    omega (arith, places admitted, c .before .frames .ensures .0, c .last-frame-arg3 .given .0 .1)
+    omega (arith, places admitted, c .before .frames .ensures .0, c .last-frame-arg .given .0 .1)
 
 returns-3 : tie.Need-returns-3
 returns-3 c =
@@ -119,15 +112,16 @@ returns-3 c =
     let k = accepting (c .before .before .before .before .before) in
     let room = c .before .before .before .frames-arg .given .0 .1 in
     let frames = c .before .before .frames .ensures in
-    let last = c .last-frame3 .ensures in
-    all-stand _ _ _ _ (job admitted) (left-by admitted) _ _ k (listed admitted ∙ k .frames)
-    (omega (arith, k .enough, places admitted, room)) (frames .0) (frames .1) (last .0) (last .1)
+    let last = c .last-frame .ensures in
+    all-stand _ _ _ (job admitted) (left-by admitted) _ _ k (omega (arith, k .enough, places admitted, room)) (frames .0)
+    (frames .1) (last .0) (last .1)
+    ∙ sym (comes admitted _)
 
 pub frames-spec : {M : Type 1} → statement M
 frames-spec =
     tie.close
     (tie.spec
-    last-frame-requires
+    refused-requires
     returns
     open-requires
     slice-aggregate-admit
@@ -135,10 +129,10 @@ frames-spec =
     slice-aggregate-admit-3
     admit-requires
     accepted-requires
-    last-frame-requires-2
+    refused-requires-2
     returns-2
     slice-aggregate-frames
     frames-requires
     cast-last-frame
-    last-frame-requires-3
+    last-frame-requires
     returns-3)

@@ -3,9 +3,9 @@ use Prim.Native.Nat.{_+_, _-_, _*_, _≤_, _<_}
 use native.Mathlib.Omega.{arith}
 use mathlib.Core.Path.{refl}
 use lib.ListN.{length, getD}
-use Rattle.store.specs.Directory.{stride, lengthAt}
-use Rattle.rebuild.proofs.FoundChunks.{found-length}
-use Rattle.rebuild.proofs.ChunksWritten.{Underway, none-written, next-fits, one-written, all-written}
+use Rattle.directory.specs.Entry.{stride, lengthAt}
+use Rattle.rebuild.proofs.laws.LocatedChunks.{located-length}
+use Rattle.rebuild.proofs.laws.ChunksWritten.{Underway, none-written, next-fits, one-written, all-written}
 use Rattle.rebuild.proofs.write_chunks.Statement.{statement}
 use Rattle.rebuild.proofs.write_chunks.Tie as tie
 
@@ -61,7 +61,7 @@ fits : (c : tie.In-loop Inv-loop μ-loop) → let a = c .before .before .before 
     c .before .loop .at + lengthAt (a .directory .now) (getD (a .recipe .now) (c .before .loop .i) 0) ≤ a .total
 fits c =
     let start = c .before .before .before .before .before .before in
-    let size = found-length (start .pre .0) (c .before .loop .i) (c .loop-test .taken) in
+    let size = located-length (start .pre .0) (c .before .loop .i) (c .loop-test .taken) in
     omega (arith, size, next-fits (c .before .loop .inv) (c .loop-test .taken) _ refl, start .pre .1 .0)
 
 copy-chunk-requires : tie.Need-copy-chunk-requires Inv-loop μ-loop
@@ -86,7 +86,7 @@ loop-again c =
     let copied = c .before .before in
     let turn = copied .before .before .before .before .before .before in
     let start = turn .before .before .before .before .before .before in
-    rw (found-length (start .pre .0) (turn .before .loop .i) (turn .loop-test .taken))
+    rw (located-length (start .pre .0) (turn .before .loop .i) (turn .loop-test .taken))
     (one-written (turn .before .loop .inv) (turn .loop-test .taken) _ refl _ (rw (start .pre .1 .0) at (copied .copy-chunk .ensures)))
 
 same-length : tie.Need-same-length Inv-loop μ-loop

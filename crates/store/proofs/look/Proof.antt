@@ -1,20 +1,21 @@
 -- `store::look` meets its contract.
 use native.Mathlib.Omega.{arith}
-use native.Mathlib.Nat.{add-sub-cancel-left}
+use native.Mathlib.Nat.{add-sub-cancel-left, zero-add}
 use mathlib.Core.Path.{_≡_, sym, ap, _∙_}
 use mathlib.Core.Bool.{true}
 use borrow.Author.Needs.{needs}
 use borrow.Author.Tests.{not-true, not-false}
 use Rattle.refusal.specs.Number.{accepted}
-use Rattle.store.specs.Directory.{offsetAt, lengthAt}
-use Rattle.store.specs.Looking.{lookGround, shown}
-use Rattle.store.proofs.Entries.{Placed}
-use Rattle.store.proofs.Stretches.{look-placed, stretch-found}
+use Rattle.directory.specs.Entry.{offsetAt, lengthAt}
+use Rattle.store.specs.Grounds.{lookGround}
+use Rattle.store.specs.Looking.{shown}
+use Rattle.store.proofs.laws.grounds.Entries.{Placed}
+use Rattle.store.proofs.laws.Stretches.{look-placed, stretch-found}
 use Rattle.store.proofs.look.Statement.{statement}
 use Rattle.store.proofs.look.Tie as tie
 
-look-refusal-requires : tie.Need-look-refusal-requires
-look-refusal-requires c κs = search needs
+look-ground-requires : tie.Need-look-ground-requires
+look-ground-requires c κs = search needs
 
 accepted-requires : tie.Need-accepted-requires
 accepted-requires c κs = search needs
@@ -31,15 +32,15 @@ part-result-end c = search needs
 returns : tie.Need-returns
 unfolding shown
 returns c =
-    let ground = c .before .before .before .look-refusal .ensures in
+    let ground = c .before .before .before .look-ground .ensures in
     let h = sym (ap accepted ground) ∙ (sym (c .before .before .accepted .ensures) ∙ not-true _ (c .before .if1 .taken)) in
-    rw h
+    rw (h, zero-add)
 
 -- no ground holds
 passed : (c : tie.Else1) → let a = c .before .before .before .before .before .args in
     accepted (lookGround (a .head) (a .pool .now) (a .directory .now) (a .number)) ≡ true
 passed c =
-    sym (ap accepted (c .before .before .look-refusal .ensures))
+    sym (ap accepted (c .before .before .look-ground .ensures))
     ∙ (sym (c .before .accepted .ensures) ∙ not-false _ (c .if1 .left))
 
 -- so the chunk has its entry in the directory and its bytes in the pool
@@ -89,7 +90,7 @@ pub look-spec : {M : Type 1} → statement M
 look-spec =
     tie.close
     (tie.spec
-    look-refusal-requires
+    look-ground-requires
     accepted-requires
     sub-result
     part-result-start

@@ -1,34 +1,27 @@
 -- `store::open` meets its contract.
 use mathlib.Core.Path.{sym, _∙_}
+use Rattle.store.specs.Opening.{opened}
 use borrow.Author.Needs.{needs}
-use Rattle.store.specs.Admission.{opened}
-use Rattle.chunker.proofs.Opening.{opened-ground, opened-accepted}
 use Rattle.store.proofs.open.Statement.{statement}
 use Rattle.store.proofs.open.Tie as tie
 
-open-requires : tie.Need-open-requires
-open-requires c κs = search needs
+window-allowed-requires : tie.Need-window-allowed-requires
+window-allowed-requires c κs = search needs
 
-accepted-requires : tie.Need-accepted-requires
-accepted-requires c κs = search needs
+fresh-requires : tie.Need-fresh-requires
+fresh-requires c κs = search needs
 
 returns : tie.Need-returns
 unfolding opened
-returns c =
-    let answer = c .before .before .open .ensures in
-    rw (
-      opened-ground _ _ answer,
-      sym (opened-accepted _ _ answer) ∙ (sym (c .before .accepted .ensures) ∙ c .if1 .taken),
-    )
+returns c = rw (sym (c .before .before .window-allowed .ensures) ∙ c .before .if1 .taken, c .fresh .ensures)
+
+fresh-requires-2 : tie.Need-fresh-requires-2
+fresh-requires-2 c κs = search needs
 
 returns-2 : tie.Need-returns-2
 unfolding opened
-returns-2 c =
-    let answer = c .before .before .open .ensures in
-    rw (
-      opened-ground _ _ answer,
-      sym (opened-accepted _ _ answer) ∙ (sym (c .before .accepted .ensures) ∙ c .if1 .left),
-    )
+returns-2 c = rw (sym (c .before .before .window-allowed .ensures) ∙ c .before .if1 .left, c .fresh2 .ensures)
 
 pub open-spec : {M : Type 1} → statement M
-open-spec = tie.close (tie.spec open-requires accepted-requires returns returns-2)
+open-spec =
+    tie.close (tie.spec window-allowed-requires fresh-requires returns fresh-requires-2 returns-2)

@@ -1,52 +1,79 @@
--- `compare::handworked::longest_chunks` meets its contract. Each turn compares one window.
-use Prim.Native.Nat.{_≤_, _-_}
-use mathlib.Core.Path.{_≡_}
-use lib.ListN.{length}
+-- `compare::handworked::longest_chunks` meets its contract.
+use native.Mathlib.Omega.{arith}
+use lib.ListN.{length-set, length-take}
 use borrow.Author.Needs.{needs}
 use Rattle.compare.proofs.handworked.longest_chunks.Statement.{statement}
 use Rattle.compare.proofs.handworked.longest_chunks.Tie as tie
 
-abbrev Inv-loop : tie.InvT-loop
-Inv-loop job₀ tally₀ window₀ job tally window = (window ≤ 17) × (length job ≡ length job₀)
+mul-whole : tie.Need-mul-whole
+mul-whole c = search needs
 
-abbrev μ-loop : tie.MeasureT-loop
-μ-loop job₀ tally₀ window₀ job tally window = 17 - window
+returns : tie.Need-returns
+returns c = search needs
 
-empty-requires : tie.Need-empty-requires Inv-loop μ-loop
-empty-requires c κs = search needs
+wrapping-sub-u32-requires : tie.Need-wrapping-sub-u32-requires
+wrapping-sub-u32-requires c κs = search needs
 
-loop-holds : tie.Need-loop-holds Inv-loop μ-loop
-loop-holds c = search needs
+fill-requires : tie.Need-fill-requires
+fill-requires c κs = search needs
 
-longest-chunk-requires : tie.Need-longest-chunk-requires Inv-loop μ-loop
-longest-chunk-requires c κs = search needs
+slice-write-job : tie.Need-slice-write-job
+slice-write-job c = search needs
 
-add-window : tie.Need-add-window Inv-loop μ-loop
-add-window c = search needs
+slice-reshare-prefix-stated : tie.Need-slice-reshare-prefix-stated
+slice-reshare-prefix-stated c = simp length-set (omega arith)
 
-loop-less : tie.Need-loop-less Inv-loop μ-loop
-loop-less c = search needs
+slice-aggregate-stated : tie.Need-slice-aggregate-stated
+slice-aggregate-stated c = simp (length-take, length-set) (omega arith)
 
-loop-again : tie.Need-loop-again Inv-loop μ-loop
-loop-again c = search needs
+slice-aggregate-stated-2 : tie.Need-slice-aggregate-stated-2
+slice-aggregate-stated-2 c = search needs
 
-same-length : tie.Need-same-length Inv-loop μ-loop
+stated-requires : tie.Need-stated-requires
+stated-requires c κs = search needs
+
+add-stated : tie.Need-add-stated
+add-stated c = search needs
+
+slice-reshare-prefix-stated-2 : tie.Need-slice-reshare-prefix-stated-2
+slice-reshare-prefix-stated-2 c = simp length-set (omega arith)
+
+slice-aggregate-stated-3 : tie.Need-slice-aggregate-stated-3
+slice-aggregate-stated-3 c = simp (length-take, length-set) (omega arith)
+
+add-t21 : tie.Need-add-t21
+add-t21 c = search needs
+
+slice-aggregate-stated-4 : tie.Need-slice-aggregate-stated-4
+slice-aggregate-stated-4 c = search needs
+
+stated-requires-2 : tie.Need-stated-requires-2
+stated-requires-2 c κs = search needs
+
+same-length : tie.Need-same-length
 same-length c = search needs
 
-returns : tie.Need-returns Inv-loop μ-loop
-returns c = search needs
+returns-2 : tie.Need-returns-2
+returns-2 c = search needs
 
 pub longest-chunks-spec : {M : Type 1} → statement M
 longest-chunks-spec =
     tie.close
     (tie.spec
-    Inv-loop
-    μ-loop
-    empty-requires
-    loop-holds
-    longest-chunk-requires
-    add-window
-    loop-less
-    loop-again
+    mul-whole
+    returns
+    wrapping-sub-u32-requires
+    fill-requires
+    slice-write-job
+    slice-reshare-prefix-stated
+    slice-aggregate-stated
+    slice-aggregate-stated-2
+    stated-requires
+    add-stated
+    slice-reshare-prefix-stated-2
+    slice-aggregate-stated-3
+    add-t21
+    slice-aggregate-stated-4
+    stated-requires-2
     same-length
-    returns)
+    returns-2)

@@ -48,12 +48,6 @@ loop-less c = search needs
 loop-again : tie.Need-loop-again Inv-loop μ-loop
 loop-again c = search needs
 
-same-length-2 : tie.Need-same-length-2 Inv-loop μ-loop
-same-length-2 c = search needs
-
-returns-2 : tie.Need-returns-2 Inv-loop μ-loop
-returns-2 c = search needs
-
 pub chunks-spec : {M : Type 1} → statement M
 chunks-spec =
     tie.close
@@ -71,6 +65,4 @@ chunks-spec =
     add-requires
     add-start
     loop-less
-    loop-again
-    same-length-2
-    returns-2)
+    loop-again)

@@ -1,8 +1,5 @@
 -- `hirunvel::rebuilding::hirunvel_rebuild` meets its contract.
-use mathlib.Core.Path.{ap, _∙_}
-use mathlib.Core.List.{[], _∷_}
 use borrow.Author.Needs.{needs}
-use Rattle.refusal.specs.Number.{numberOf}
 use Rattle.hirunvel.specs.Rebuilding.{jobRebuilt}
 use Rattle.hirunvel.proofs.rebuilding.hirunvel_rebuild.Statement.{statement}
 use Rattle.hirunvel.proofs.rebuilding.hirunvel_rebuild.Tie as tie
@@ -23,7 +20,7 @@ returns : tie.Need-returns
 unfolding jobRebuilt
 returns c =
     let done = rw (c .before .before .before .before .before .before .head-of .ensures) at (c .before .before .before .before .rebuild .ensures) in
-    (c .of .ensures ∙ ap (λ a. numberOf (a .refusal)) (done .0), (done .1, ap (λ a. a .written ∷ []) (done .0)))
+    rw (c .of .ensures, ← done)
 
 pub hirunvel-rebuild-spec : {M : Type 1} → statement M
 hirunvel-rebuild-spec =

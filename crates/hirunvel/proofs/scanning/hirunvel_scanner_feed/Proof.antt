@@ -4,27 +4,27 @@ use mathlib.Core.Logic.{⊎-elim}
 use borrow.Author.Needs.{needs}
 use borrow.Author.Tests.{not-false}
 use Rattle.hirunvel.specs.Scanning.{numbersOf}
-use Rattle.hirunvel.proofs.Scanners.{written, fed-starts, cut-keeps}
+use Rattle.hirunvel.proofs.laws.Scanners.{written, fed-starts, cut-keeps}
 use Rattle.hirunvel.proofs.scanning.hirunvel_scanner_feed.Statement.{statement}
 use Rattle.hirunvel.proofs.scanning.hirunvel_scanner_feed.Tie as tie
 
 array-read-if1 : tie.Need-array-read-if1
 array-read-if1 c = search needs
 
-feed-any-requires : tie.Need-feed-any-requires
-feed-any-requires c κs = search needs
+feed-general-requires : tie.Need-feed-general-requires
+feed-general-requires c κs = search needs
 
 returns : tie.Need-returns
-returns c = c .feed-any .ensures
+returns c = c .feed-general .ensures
 
 untouched-requires : tie.Need-untouched-requires
 untouched-requires c κs = search needs
 
-feed-any-requires-2 : tie.Need-feed-any-requires-2
-feed-any-requires-2 c κs = search needs
+feed-general-requires-2 : tie.Need-feed-general-requires-2
+feed-general-requires-2 c κs = search needs
 
 returns-2 : tie.Need-returns-2
-returns-2 c = c .feed-any2 .ensures
+returns-2 c = c .feed-general2 .ensures
 
 array-read-feed-fresh : tie.Need-array-read-feed-fresh
 array-read-feed-fresh c = search needs
@@ -51,18 +51,17 @@ returns-3 c =
     ⊎-elim (λ moved. moved .2 ∙ moved .1 .ensures)
     (λ kept. kept .1 ∙ sym (cut-keeps (a .scanner .now) start (a .part .now) _ (feed .feed-fresh .ensures) (not-false _ (kept .0 .left))))
     (joined .if3 .came) in
-    rw (fed-starts (a .scanner .now) start (a .part .now) _ (feed .feed-fresh .ensures))
-    (c .of .ensures, (scanner, written (feed .feed-fresh .result)))
+    rw (fed-starts (a .scanner .now) start (a .part .now) _ (feed .feed-fresh .ensures), c .of .ensures, scanner, written (feed .feed-fresh .result))
 
 pub hirunvel-scanner-feed-spec : {M : Type 1} → statement M
 hirunvel-scanner-feed-spec =
     tie.close
     (tie.spec
     array-read-if1
-    feed-any-requires
+    feed-general-requires
     returns
     untouched-requires
-    feed-any-requires-2
+    feed-general-requires-2
     returns-2
     array-read-feed-fresh
     feed-fresh-requires

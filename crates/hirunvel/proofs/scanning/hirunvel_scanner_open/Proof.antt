@@ -1,8 +1,6 @@
 -- `hirunvel::scanning::hirunvel_scanner_open` meets its contract.
-use mathlib.Core.Path.{ap, _∙_}
 use borrow.Author.Needs.{needs}
-use Rattle.refusal.specs.Number.{numberOf}
-use Rattle.hirunvel.specs.Scanning.{numbersOf, scannerOpened}
+use Rattle.hirunvel.specs.Scanning.{scannerOpened}
 use Rattle.hirunvel.proofs.scanning.hirunvel_scanner_open.Statement.{statement}
 use Rattle.hirunvel.proofs.scanning.hirunvel_scanner_open.Tie as tie
 
@@ -19,7 +17,7 @@ returns : tie.Need-returns
 unfolding scannerOpened
 returns c =
     let opening = c .before .before .«open» .ensures in
-    (c .of .ensures ∙ ap (λ o. numberOf (o .refusal)) opening, c .before .numbers-of .ensures ∙ ap (λ o. numbersOf (o .scanner)) opening)
+    rw (c .of .ensures, c .before .numbers-of .ensures, opening)
 
 pub hirunvel-scanner-open-spec : {M : Type 1} → statement M
 hirunvel-scanner-open-spec =

@@ -1,7 +1,7 @@
 -- `hirunvel::scanning::untouched` meets its contract.
 use borrow.Author.Needs.{needs}
 use borrow.Author.Tests.{eqb-true}
-use Rattle.hirunvel.proofs.Scanners.{no-byte-since}
+use Rattle.hirunvel.proofs.laws.Scanners.{no-byte-since}
 use Rattle.hirunvel.proofs.scanning.untouched.Statement.{statement}
 use Rattle.hirunvel.proofs.scanning.untouched.Tie as tie
 

@@ -1,13 +1,12 @@
 -- `hirunvel::storing::hirunvel_store_admit` meets its contract.
-use mathlib.Core.Path.{_≡_, refl, sym, ap, _∙_}
-use mathlib.Core.List.{[], _∷_}
+use mathlib.Core.Path.{_≡_, sym, _∙_}
 use mir.Syntax.{w64}
 use mir.Val.{toZ, ofZ}
 use borrow.Author.Needs.{needs}
 use borrow.Author.Tests.{not-true, not-false}
-use Rattle.store.specs.Admission.{Admission, admitted}
+use Rattle.admission.specs.Admission.{Admission, admitted}
 use Rattle.hirunvel.specs.Storing.{headOf}
-use Rattle.hirunvel.proofs.Outcomes.{admit-moves, admit-leaves}
+use Rattle.hirunvel.proofs.laws.Outcomes.{admit-moves, admit-leaves}
 use Rattle.hirunvel.proofs.storing.hirunvel_store_admit.Statement.{statement}
 use Rattle.hirunvel.proofs.storing.hirunvel_store_admit.Tie as tie
 
@@ -56,10 +55,7 @@ left-by c =
 done : (c : tie.After-admit) → let a = c .before .before .before .before .before .before .before .before .before .before .args in
     left-by c ≡ admitted (headOf (a .head .now)) (a .pool .now) (a .directory .now) (a .recipe .now) (a .job .now)
 done c =
-    let e = c .admit .ensures in
-    let same : left-by c ≡ admitted (c .before .before .before .before .head-of .result) _ _ _ _ =
-    λ i. record { answer = e .0 i; pool = e .1 .0 i; directory = e .1 .1 .0 i; recipe = e .1 .1 .1 i } in
-    rw (c .before .before .before .before .head-of .ensures) at same
+    rw (c .before .before .before .before .head-of .ensures) at (c .admit .ensures)
 
 -- the saving is kept whole in its 64 bits
 kept : (c : tie.After-saving) → let z = c .before .before .before .before .before .before .before .before .before .before .before .before .admit .result .saving in toZ w64 (ofZ w64 z) ≡ z
@@ -68,8 +64,7 @@ kept c = search needs
 returns : tie.Need-returns
 returns c =
     let test = sym (c .before .before .accepted .ensures) ∙ not-true _ (c .before .if1 .taken) in
-    rw (admit-leaves _ _ _ _ _ _ (done (c .before .before .before .before .before .before .before .before .before .before .before .before .before .before .before)) test)
-    (c .of .ensures, (refl, (refl, (refl, (refl, (refl, ap (λ z. z ∷ []) (kept (c .before .before .before))))))))
+    rw (admit-leaves _ _ _ _ _ _ (done (c .before .before .before .before .before .before .before .before .before .before .before .before .before .before .before)) test, c .of .ensures, kept (c .before .before .before))
 
 head-numbers-requires : tie.Need-head-numbers-requires
 head-numbers-requires c κs = search needs
@@ -89,8 +84,7 @@ same-length-6 c = search needs
 returns-2 : tie.Need-returns-2
 returns-2 c =
     let test = sym (c .before .before .before .accepted .ensures) ∙ not-false _ (c .before .before .if1 .left) in
-    rw (admit-moves _ _ _ _ _ _ (done (c .before .before .before .before .before .before .before .before .before .before .before .before .before .before .before .before)) test)
-    (c .of2 .ensures, (c .before .head-numbers .ensures, (refl, (refl, (refl, (refl, ap (λ z. z ∷ []) (kept (c .before .before .before .before))))))))
+    rw (admit-moves _ _ _ _ _ _ (done (c .before .before .before .before .before .before .before .before .before .before .before .before .before .before .before .before)) test, c .of2 .ensures, c .before .head-numbers .ensures, kept (c .before .before .before .before))
 
 pub hirunvel-store-admit-spec : {M : Type 1} → statement M
 hirunvel-store-admit-spec =

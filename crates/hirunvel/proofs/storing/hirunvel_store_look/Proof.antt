@@ -1,19 +1,18 @@
 -- `hirunvel::storing::hirunvel_store_look` meets its contract.
-use mathlib.Core.Path.{refl, sym, ap, _∙_}
-use mathlib.Core.List.{[], _∷_}
+use mathlib.Core.Path.{sym, ap, _∙_}
 use borrow.Author.Needs.{needs}
 use borrow.Author.Tests.{not-true, not-false}
-use Rattle.refusal.specs.Number.{numberOf, accepted}
+use Rattle.refusal.specs.Number.{accepted}
 use Rattle.hirunvel.specs.Storing.{storeLooked}
-use Rattle.store.proofs.Stretches.{look-placed, stretch-found}
+use Rattle.store.proofs.laws.Stretches.{look-placed, stretch-found}
 use Rattle.hirunvel.proofs.storing.hirunvel_store_look.Statement.{statement}
 use Rattle.hirunvel.proofs.storing.hirunvel_store_look.Tie as tie
 
 head-of-requires : tie.Need-head-of-requires
 head-of-requires c κs = search needs
 
-look-refusal-requires : tie.Need-look-refusal-requires
-look-refusal-requires c κs = search needs
+look-ground-requires : tie.Need-look-ground-requires
+look-ground-requires c κs = search needs
 
 accepted-requires : tie.Need-accepted-requires
 accepted-requires c κs = search needs
@@ -24,9 +23,9 @@ of-requires c κs = search needs
 returns : tie.Need-returns
 unfolding storeLooked
 returns c =
-    let ground = rw (c .before .before .before .before .before .head-of .ensures) at (c .before .before .before .before .look-refusal .ensures) in
+    let ground = rw (c .before .before .before .before .before .head-of .ensures) at (c .before .before .before .before .look-ground .ensures) in
     let test = sym (ap accepted ground) ∙ (sym (c .before .before .before .accepted .ensures) ∙ not-true _ (c .before .before .if1 .taken)) in
-    rw test (c .of .ensures ∙ ap numberOf ground, refl)
+    rw (test, c .of .ensures, ground)
 
 stretch-of-requires : tie.Need-stretch-of-requires
 stretch-of-requires c κs = search needs
@@ -43,18 +42,18 @@ of-requires-2 c κs = search needs
 returns-2 : tie.Need-returns-2
 unfolding storeLooked
 returns-2 c =
-    let ground = rw (c .before .before .before .before .before .before .before .before .before .head-of .ensures) at (c .before .before .before .before .before .before .before .before .look-refusal .ensures) in
+    let ground = rw (c .before .before .before .before .before .before .before .before .before .head-of .ensures) at (c .before .before .before .before .before .before .before .before .look-ground .ensures) in
     let test = sym (ap accepted ground) ∙ (sym (c .before .before .before .before .before .before .before .accepted .ensures) ∙ not-false _ (c .before .before .before .before .before .before .if1 .left)) in
     let placed = look-placed _ _ _ _ test in
     let found = c .before .before .before .before .before .stretch-of .ensures ∙ stretch-found _ _ (placed .inDirectory) in
-    rw test (c .of2 .ensures ∙ ap numberOf ground, ap (λ s. s .offset .0 ∷ s .length ∷ []) found)
+    rw (test, c .of2 .ensures, ground, found)
 
 pub hirunvel-store-look-spec : {M : Type 1} → statement M
 hirunvel-store-look-spec =
     tie.close
     (tie.spec
     head-of-requires
-    look-refusal-requires
+    look-ground-requires
     accepted-requires
     of-requires
     returns

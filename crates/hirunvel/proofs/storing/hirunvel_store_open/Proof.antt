@@ -1,8 +1,6 @@
 -- `hirunvel::storing::hirunvel_store_open` meets its contract.
-use mathlib.Core.Path.{ap, _∙_}
 use borrow.Author.Needs.{needs}
-use Rattle.refusal.specs.Number.{numberOf}
-use Rattle.hirunvel.specs.Storing.{headNumbers, storeOpened}
+use Rattle.hirunvel.specs.Storing.{storeOpened}
 use Rattle.hirunvel.proofs.storing.hirunvel_store_open.Statement.{statement}
 use Rattle.hirunvel.proofs.storing.hirunvel_store_open.Tie as tie
 
@@ -19,7 +17,7 @@ returns : tie.Need-returns
 unfolding storeOpened
 returns c =
     let opening = c .before .before .«open» .ensures in
-    (c .of .ensures ∙ ap (λ o. numberOf (o .refusal)) opening, c .before .head-numbers .ensures ∙ ap (λ o. headNumbers (o .head)) opening)
+    rw (c .of .ensures, c .before .head-numbers .ensures, opening)
 
 pub hirunvel-store-open-spec : {M : Type 1} → statement M
 hirunvel-store-open-spec =

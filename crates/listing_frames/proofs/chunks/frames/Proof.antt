@@ -1,10 +1,11 @@
--- `listing_frames::chunks::frames` meets its contract. Each turn writes the frame of one chunk.
+-- `listing_frames::chunks::frames` meets its contract. Each iteration writes the frame of one chunk.
 use Prim.Native.Nat.{_*_, _-_, _≤_}
 use native.Mathlib.Omega.{arith}
 use mathlib.Core.Path.{ap}
 use borrow.Author.Needs.{needs}
 use lib.ListN.{length, getD}
-use Rattle.listing_frames.proofs.Walking.{Walking, Found, mark-most, walks-out, finds, walks-on, walks-all, walks-ends}
+use Rattle.listing_frames.specs.Frames.{frameBytes}
+use Rattle.listing_frames.proofs.laws.Walking.{Walking, Found, mark-most, walks-out, finds, walks-on, walks-all, walks-ends}
 use Rattle.listing_frames.proofs.chunks.frames.Statement.{statement}
 use Rattle.listing_frames.proofs.chunks.frames.Tie as tie
 
@@ -30,7 +31,7 @@ part-next-chunk-end c = omega arith
 next-chunk-requires : tie.Need-next-chunk-requires Inv-loop μ-loop
 next-chunk-requires c κs = search needs
 
--- a turn takes the first chunk of what the job has left
+-- an iteration takes the first chunk of what the job has left
 found : (c : tie.After-next-chunk Inv-loop μ-loop) → let start = c .before .before .before .before .before .before .before in let loop = c .before .before .before .loop in
     Found (start .args .job .now) (start .args .recipe .now) (loop .used) (loop .at) (c .next-chunk .result)
 found c = finds (c .before .before .before .loop .inv) (c .before .before .loop-test .taken) (c .before .before .before .before .before .before .before .pre .1 .0) _ (c .next-chunk .ensures)
@@ -100,7 +101,7 @@ same-length c = c .before .loop .inv .kept
 returns : tie.Need-returns Inv-loop μ-loop
 returns c =
     let done = walks-all (c .before .loop .inv) (c .loop-test .left) in
-    (ap (λ n. 23 * n) done, walks-ends (c .before .loop .inv) (c .loop-test .left))
+    (ap (λ n. frameBytes * n) done, walks-ends (c .before .loop .inv) (c .loop-test .left))
 
 pub frames-spec : {M : Type 1} → statement M
 frames-spec =

@@ -2,7 +2,7 @@
 use mathlib.Core.Path.{refl, ap, _∙_}
 use lib.ListN.{length}
 use lib.Seq.{length-sets}
-use Rattle.listing_frames.proofs.Stores.{frame-stores}
+use Rattle.listing_frames.proofs.laws.Stores.{frame-stores}
 use borrow.Author.Needs.{needs}
 use Rattle.listing_frames.proofs.text.write_frame.Statement.{statement}
 use Rattle.listing_frames.proofs.text.write_frame.Tie as tie

@@ -1,7 +1,7 @@
--- `listing_frames::text::write_hex` meets its contract: each turn writes one digit.
+-- `listing_frames::text::write_hex` meets its contract: each iteration writes one digit.
 use native.Mathlib.Omega.{arith}
 use mathlib.Core.Path.{refl}
-use Rattle.listing_frames.proofs.Stores.{Writing, writes-one, writes-all}
+use Rattle.listing_frames.proofs.laws.Stores.{Writing, writes-one, writes-all}
 use Rattle.listing_frames.proofs.text.write_hex.Statement.{statement}
 use Rattle.listing_frames.proofs.text.write_hex.Tie as tie
 

@@ -3,7 +3,7 @@ use Prim.Native.Nat.{_-_}
 use native.Mathlib.Omega.{arith}
 use mathlib.Core.Path.{refl}
 use lib.ListN.{length}
-use Rattle.rebuild.proofs.Recipes.{Compared, one-below, one-not-below, all-tested}
+use Rattle.rebuild.proofs.laws.Recipes.{Compared, one-below, one-not-below, all-tested}
 use Rattle.rebuild.proofs.grounds.all_below.Statement.{statement}
 use Rattle.rebuild.proofs.grounds.all_below.Tie as tie
 

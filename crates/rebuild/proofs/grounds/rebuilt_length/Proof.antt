@@ -2,9 +2,9 @@
 use Prim.Native.Nat.{_+_, _-_, _*_, _<_}
 use native.Mathlib.Omega.{arith}
 use lib.ListN.{length, getD}
-use Rattle.store.specs.Directory.{stride, lengthAt}
-use Rattle.rebuild.proofs.Recipes.{Counted, none-counted, one-counted, counted-small, all-counted}
-use Rattle.rebuild.proofs.FoundChunks.{found-length}
+use Rattle.directory.specs.Entry.{stride, lengthAt}
+use Rattle.rebuild.proofs.laws.Recipes.{Counted, none-counted, one-counted, counted-small, all-counted}
+use Rattle.rebuild.proofs.laws.LocatedChunks.{located-length}
 use Rattle.rebuild.proofs.grounds.rebuilt_length.Statement.{statement}
 use Rattle.rebuild.proofs.grounds.rebuilt_length.Tie as tie
 
@@ -53,7 +53,7 @@ counted : (c : tie.In-loop Inv-loop μ-loop)
 counted c =
     let turn = c .before in
     let more = c .loop-test .taken in
-    one-counted (turn .loop .inv) _ more (found-length (turn .before .pre .1 .1) (turn .loop .i) more)
+    one-counted (turn .loop .inv) _ more (located-length (turn .before .pre .1 .1) (turn .loop .i) more)
 
 cast-total : tie.Need-cast-total Inv-loop μ-loop
 cast-total c =

@@ -1,6 +1,6 @@
 -- `rebuild::staging::copy_128` meets its contract.
 use native.Mathlib.Omega.{arith}
-use Rattle.rebuild.proofs.Covering.{stretch-twice}
+use Rattle.rebuild.proofs.laws.Covering.{stretch-twice}
 use Rattle.rebuild.proofs.staging.copy_128.Statement.{statement}
 use Rattle.rebuild.proofs.staging.copy_128.Tie as tie
 

@@ -2,7 +2,7 @@
 use Prim.Native.Nat.{_+_, _-_}
 use native.Mathlib.Omega.{arith}
 use mathlib.Core.Path.{_≡_}
-use Rattle.rebuild.proofs.Covering.{stretch-length}
+use Rattle.rebuild.proofs.laws.Covering.{stretch-length}
 use Rattle.rebuild.proofs.staging.copy_64.Statement.{statement}
 use Rattle.rebuild.proofs.staging.copy_64.Tie as tie
 

@@ -2,7 +2,7 @@
 use Prim.Native.Nat.{_+_, _-_}
 use native.Mathlib.Omega.{arith}
 use mathlib.Core.Path.{_≡_}
-use Rattle.rebuild.proofs.Covering.{stretch-length, stretch-covers}
+use Rattle.rebuild.proofs.laws.Covering.{stretch-length, stretch-covers}
 use Rattle.rebuild.proofs.staging.copy_chunk.Statement.{statement}
 use Rattle.rebuild.proofs.staging.copy_chunk.Tie as tie
 

@@ -6,22 +6,22 @@ use lib.Seq.{take-at}
 use Rattle.rebuild.proofs.staging.copy_part.Statement.{statement}
 use Rattle.rebuild.proofs.staging.copy_part.Tie as tie
 
-copy-requires : tie.Need-copy-requires
-copy-requires c κs = omega (arith, c .before .before .before .before .pre .0)
+copy-bytes-requires : tie.Need-copy-bytes-requires
+copy-bytes-requires c κs = omega (arith, c .before .before .before .before .pre .0)
 
 -- the buffer starts with the bytes once they are copied there
-held : (c : tie.After-copy) → let part = c .before .before .before .before .before .args .part .now in
-    take (length part) (c .copy .last .0) ≡ part
-held c = rw (c .copy .ensures) (take-at (c .before .before .before .before .before .args .part .now) _ _ refl)
+held : (c : tie.After-copy-bytes) → let part = c .before .before .before .before .before .args .part .now in
+    take (length part) (c .copy-bytes .last .0) ≡ part
+held c = rw (c .copy-bytes .ensures) (take-at (c .before .before .before .before .before .args .part .now) _ _ refl)
 
-slice-reshare-prefix-copy : tie.Need-slice-reshare-prefix-copy
-slice-reshare-prefix-copy c = omega arith
+slice-reshare-prefix-copy-bytes : tie.Need-slice-reshare-prefix-copy-bytes
+slice-reshare-prefix-copy-bytes c = omega arith
 
-slice-aggregate-copy : tie.Need-slice-aggregate-copy
-slice-aggregate-copy c = omega (arith, ap length (held (c .before .before .before .before)))
+slice-aggregate-copy-bytes : tie.Need-slice-aggregate-copy-bytes
+slice-aggregate-copy-bytes c = omega (arith, ap length (held (c .before .before .before .before)))
 
-copy-requires-2 : tie.Need-copy-requires-2
-copy-requires-2 c κs = let h = held (c .before .before .before .before) in rw h (c .before .before .before .before .before .before .before .before .before .pre .1)
+copy-bytes-requires-2 : tie.Need-copy-bytes-requires-2
+copy-bytes-requires-2 c κs = let h = held (c .before .before .before .before) in rw h (c .before .before .before .before .before .before .before .before .before .pre .1)
 
 same-length : tie.Need-same-length
 same-length c = omega arith
@@ -30,16 +30,16 @@ same-length-2 : tie.Need-same-length-2
 same-length-2 c = omega arith
 
 returns : tie.Need-returns
-returns c = rw (held (c .before .before .before .before .before .before .before)) at (c .before .before .copy2 .ensures)
+returns c = rw (held (c .before .before .before .before .before .before .before)) at (c .before .before .copy-bytes2 .ensures)
 
 pub copy-part-spec : {M : Type 1} → statement M
 copy-part-spec =
     tie.close
     (tie.spec
-    copy-requires
-    slice-reshare-prefix-copy
-    slice-aggregate-copy
-    copy-requires-2
+    copy-bytes-requires
+    slice-reshare-prefix-copy-bytes
+    slice-aggregate-copy-bytes
+    copy-bytes-requires-2
     same-length
     same-length-2
     returns)

@@ -3,7 +3,7 @@ use Prim.Native.Nat.{_-_}
 use native.Mathlib.Omega.{arith}
 use mathlib.Core.Path.{_≡_, refl}
 use lib.ListN.{length}
-use Rattle.rebuild.proofs.StagedParts.{Staged, none-staged, room, part-length, rest-length, one-staged, all-staged}
+use Rattle.rebuild.proofs.laws.StagedParts.{Staged, none-staged, room, part-length, rest-length, one-staged, all-staged}
 use Rattle.rebuild.proofs.staging.copy_staged.Statement.{statement}
 use Rattle.rebuild.proofs.staging.copy_staged.Tie as tie
 

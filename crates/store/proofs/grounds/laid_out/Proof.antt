@@ -4,8 +4,8 @@ use native.Mathlib.Omega.{arith}
 use native.Mathlib.Nat.{sub-zero}
 use mathlib.Core.Path.{_≡_, sym, _∙_}
 use borrow.Author.Tests.{not-true, not-false}
-use Rattle.store.specs.Directory.{lengthAt}
-use Rattle.store.proofs.LaidOut.{Tested, none-left, not-laid, tested-more}
+use Rattle.directory.specs.Entry.{lengthAt}
+use Rattle.store.proofs.laws.grounds.LaidOut.{Tested, none-left, not-laid, tested-more}
 use Rattle.store.proofs.grounds.laid_out.Statement.{statement}
 use Rattle.store.proofs.grounds.laid_out.Tie as tie
 

@@ -1,0 +1,9 @@
+pub mod Writing
+pub mod OneChunk
+pub mod AllChunks
+pub mod Outcomes
+pub mod Admissions
+pub mod Lengths
+pub mod Saving
+pub mod Steps
+pub mod Admitting

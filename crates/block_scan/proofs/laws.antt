@@ -1,0 +1,3 @@
+pub mod ScanEnds
+pub mod BlockSteps
+pub mod LargeBlocks

@@ -1,0 +1,2 @@
+-- laws/Copying has the laws of `written` and of a copy under way.
+pub mod laws

@@ -1,0 +1,70 @@
+-- `copying::copy_16` meets its contract.
+use Prim.Native.Nat.{_+_, _-_}
+use native.Mathlib.Omega.{arith}
+use mathlib.Core.Path.{_≡_, ap, _∙_}
+use lib.ListN.{length, take, drop, length-take, length-drop}
+use Rattle.copying.proofs.laws.Copying.{written-whole}
+use Rattle.copying.proofs.copy_16.Statement.{statement}
+use Rattle.copying.proofs.copy_16.Tie as tie
+
+add-to : tie.Need-add-to
+add-to c = omega arith
+
+-- the 16 bytes
+part : (c : tie.After-block) → let a = c .before .before .before .args in
+    take (a .from + 16 - a .from) (drop (a .from) (a .bytes .now)) ≡ take 16 (drop (a .from) (a .bytes .now))
+part c =
+    let a = c .before .before .before .args in
+    let n : a .from + 16 - a .from ≡ 16 = omega arith in ap (λ k. take k (drop (a .from) (a .bytes .now))) n
+
+size : (c : tie.After-block) → let a = c .before .before .before .args in length (take 16 (drop (a .from) (a .bytes .now))) ≡ 16
+size c = simp (length-take, length-drop) (omega (arith, c .before .before .before .pre .1))
+
+slice-aggregate-copy-bytes : tie.Need-slice-aggregate-copy-bytes
+slice-aggregate-copy-bytes c = omega arith
+
+sub-copy-bytes : tie.Need-sub-copy-bytes
+sub-copy-bytes c = omega arith
+
+part-copy-bytes-start : tie.Need-part-copy-bytes-start
+part-copy-bytes-start c = omega arith
+
+part-copy-bytes-end : tie.Need-part-copy-bytes-end
+part-copy-bytes-end c = omega arith
+
+copy-bytes-requires : tie.Need-copy-bytes-requires
+copy-bytes-requires c κs = omega (arith, ap length (part (c .before)), size (c .before))
+
+-- the array is these bytes once they are copied there
+held : (c : tie.After-copy-bytes) → let a = c .before .before .before .before .before .args in
+    c .copy-bytes .last .0 ≡ take 16 (drop (a .from) (a .bytes .now))
+held c = c .copy-bytes .ensures ∙ rw (part (c .before .before)) (written-whole _ _ (size (c .before .before)))
+
+slice-aggregate-copy-bytes-2 : tie.Need-slice-aggregate-copy-bytes-2
+slice-aggregate-copy-bytes-2 c = omega arith
+
+copy-bytes-requires-2 : tie.Need-copy-bytes-requires-2
+copy-bytes-requires-2 c κs =
+    let copied = c .before .before .before in
+    omega (arith, ap length (held copied), size (copied .before .before), copied .before .before .before .before .before .pre .0)
+
+same-length : tie.Need-same-length
+same-length c = omega arith
+
+returns : tie.Need-returns
+returns c = rw (held (c .before .before .before .before .before .before)) at (c .before .before .copy-bytes2 .ensures)
+
+pub copy-16-spec : {M : Type 1} → statement M
+copy-16-spec =
+    tie.close
+    (tie.spec
+    add-to
+    slice-aggregate-copy-bytes
+    sub-copy-bytes
+    part-copy-bytes-start
+    part-copy-bytes-end
+    copy-bytes-requires
+    slice-aggregate-copy-bytes-2
+    copy-bytes-requires-2
+    same-length
+    returns)

@@ -1,0 +1,2 @@
+-- What a write to memory leaves.
+pub mod Written

@@ -1,0 +1,2 @@
+-- Difference says where two lists of chunks differ.
+pub mod Difference

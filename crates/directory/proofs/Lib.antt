@@ -1,0 +1,1 @@
+-- The functions need no laws.

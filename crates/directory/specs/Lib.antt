@@ -1,0 +1,2 @@
+-- What an entry of a directory is.
+pub mod Entry

@@ -1,0 +1,3 @@
+pub mod OwnStretch
+pub mod Calls
+pub mod Feeding

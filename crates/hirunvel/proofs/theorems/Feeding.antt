@@ -1,0 +1,176 @@
+-- Demand 2 of a C program that feeds a job in parts: the cuts are those of the published method for every splitting.
+use Prim.Native.Nat.{ℕ, _≤_, _<_}
+use native.Mathlib.Omega.{arith}
+use mathlib.Core.Path.{_≡_, refl, ap, sym, _∙_}
+use mathlib.Core.Bool.{Bool, true, false, cond, _&&_, and-eq-true-iff, false≢true}
+use mathlib.Core.List.{List, [], _∷_}
+use lib.Dec.{leb}
+use lib.ListN.{length, getD, drop}
+use borrow.Author.Tests.{leb-true, eq-eqb, le-leb}
+use Rattle.refusal.specs.Number.{numberOf, accepted}
+use Rattle.refusal.specs.Grounds.{unless}
+use Rattle.refusal.specs.declared.Refusal.the-variants.{Accepted, Window, Unsound}
+use Rattle.refusal.proofs.laws.Grounds.{none-holds, passed}
+use Rattle.refusal.proofs.laws.NoGround.{no-ground}
+use Rattle.scan.specs.declared.Scanner.{Scanner}
+use Rattle.scan.specs.declared.Fed.{Fed}
+use Rattle.chunker.specs.Bytes.{Bytes}
+use Rattle.chunker.specs.Scanner.{windowAllowed, windowGround, sound, scannerGround}
+use Rattle.chunker.specs.Answers as chunker
+use Rattle.chunker.specs.Answers.{fed, finished}
+use Rattle.chunker.specs.Chunks.{chunks}
+use Rattle.chunker.specs.Splitting as splitting
+use Rattle.chunker.specs.Splitting.{joined, Feeding}
+use Rattle.chunker.proofs.laws.ground.Soundness.{ground-sound, fed-ground, fed-accepted, scan-sound, bytes-parts, bytes-append, bytes-drop, opened-fresh}
+use Rattle.chunker.proofs.theorems.EverySplitting.{every-splitting, only-splitting}
+use Rattle.hirunvel.specs.Scanning.{numbersOf, scannerOf, numbersGround, told, scannerOpened, scannerFed, scannerFinished}
+use Rattle.hirunvel.specs.Feeding.{FeedCalls, cutting, passing, finishing}
+
+-- four numbers whose ground is none are those of a scanner, of which none holds either
+record Taken (n : List ℕ) : Type 0 where
+  byte : getD n 3 0 ≤ 255
+  ground : numbersGround n ≡ scannerGround (scannerOf n)
+  accepted : scannerGround (scannerOf n) ≡ Accepted
+
+numbers-taken : (n : List ℕ) → accepted (numbersGround n) ≡ true → Taken n
+unfolding numbersGround scannerGround
+numbers-taken n h =
+    let none = none-holds
+    (windowGround (getD n 0 0) ∷ unless (leb (getD n 3 0) 255 && sound (scannerOf n)) Unsound ∷ [])
+    h in
+    let tests = and-eq-true-iff _ _ .0 (passed (leb (getD n 3 0) 255 && sound (scannerOf n)) Unsound refl (none .1 .0)) in
+    let window = passed (windowAllowed (getD n 0 0)) Window refl (none .0) in
+    record {
+      byte = leb-true _ 255 (tests .0);
+      ground = rw (tests .0);
+      accepted = rw (window, tests .1);
+    }
+
+-- a call of hirunvel_scanner_feed that returns 0 is a feed
+record FeedCall (n part : List ℕ) : Type 0 where
+  taken : Taken n
+  refusal : fed (scannerOf n) part .refusal ≡ Accepted
+  scanner : scannerFed n part .scanner ≡ numbersOf (fed (scannerOf n) part .scanner)
+  tells : scannerFed n part .fed ≡ told (fed (scannerOf n) part)
+
+feed-called : (n part : List ℕ) → scannerFed n part .refusal ≡ 0 → FeedCall n part
+unfolding scannerFed
+feed-called n part r = by-test (accepted (numbersGround n)) refl
+  where
+    by-test : (t : Bool) → accepted (numbersGround n) ≡ t → FeedCall n part
+    by-test true e =
+        let taken = numbers-taken n e in
+        record {
+          taken = taken;
+          refusal = fed-ground (scannerOf n) part ∙ taken .accepted;
+          scanner = rw e;
+          tells = rw e;
+        }
+    by-test false e = absurd (false≢true (sym e ∙ eq-eqb (numberOf (numbersGround n)) 0 (rw e at r)))
+
+-- a cut is told by 1, and none by 0
+told-cut : (f : Fed) (n m : ℕ) → told f ≡ n ∷ m ∷ [] → (f .consumed ≡ n) × (cond (f .cut) 1 0 ≡ m)
+told-cut f n m e = (ap (λ l. getD l 0 0) e, ap (λ l. getD l 1 0) e)
+
+one-cut : (t : Bool) → _≡_ {A = ℕ} (cond t 1 0) 1 → t ≡ true
+one-cut true e = refl
+one-cut false e = absurd (omega arith)
+
+no-cut : (t : Bool) → _≡_ {A = ℕ} (cond t 1 0) 0 → t ≡ false
+no-cut true e = absurd (omega arith)
+no-cut false e = refl
+
+-- a call of hirunvel_scanner_finish that returns 0 is a finish
+finish-called : (n : List ℕ) → scannerFinished n .refusal ≡ 0
+    → (finished (scannerOf n) .refusal ≡ Accepted) × (scannerFinished n .count ≡ finished (scannerOf n) .count)
+unfolding scannerFinished finished
+finish-called n r = by-test (accepted (numbersGround n)) refl
+  where
+    by-test : (t : Bool) → accepted (numbersGround n) ≡ t
+        → (finished (scannerOf n) .refusal ≡ Accepted) × (scannerFinished n .count ≡ finished (scannerOf n) .count)
+    by-test true e = let taken = numbers-taken n e in (rw (taken .accepted), rw e)
+    by-test false e = absurd (false≢true (sym e ∙ eq-eqb (numberOf (numbersGround n)) 0 (rw e at r)))
+
+-- the calls are a feeding
+pub calls-feeding : {n since : List ℕ} {parts cs : List (List ℕ)} → FeedCalls n since parts cs
+    → Feeding (scannerOf n) since parts cs
+calls-feeding (cutting {n} {since} {part} {parts} {cs} {consumed} r t g) =
+    let c = feed-called n part r in
+    let f = fed (scannerOf n) part in
+    let told = told-cut f consumed 1 (sym (c .tells) ∙ t) in
+    let rest = rw (c .scanner, ← (told .0)) at (calls-feeding g) in
+    rw (← (told .0)) (splitting.cutting {s = scannerOf n} {part = part} (c .refusal) (one-cut (f .cut) (told .1)) rest)
+calls-feeding (passing {n} {since} {part} {parts} {cs} r t g) =
+    let c = feed-called n part r in
+    let f = fed (scannerOf n) part in
+    let told = told-cut f (length part) 0 (sym (c .tells) ∙ t) in
+    splitting.passing {s = scannerOf n} {part = part} (c .refusal) (no-cut (f .cut) (told .1)) (told .0)
+    (rw (c .scanner) at (calls-feeding g))
+calls-feeding (finishing {n} {since} r t) =
+    let c = finish-called n r in
+    splitting.finishing {s = scannerOf n} {since = since} (c .0) (sym (c .1) ∙ t)
+
+-- numbers of a scanner whose value is a byte are taken as the scanner is
+numbers-of : (s : Scanner) → s .value < 256 → numbersGround (numbersOf s) ≡ scannerGround s
+unfolding numbersGround scannerGround
+numbers-of s h = rw (le-leb (s .value) 255 (omega arith))
+
+-- feeding bytes leaves a byte for the value
+value-byte : (s : Scanner) (part : List ℕ) → s .value < 256 → Bytes part → scannerGround s ≡ Accepted
+    → fed s part .scanner .value < 256
+value-byte s part h k e = rw (fed-accepted s part e) (scan-sound s 0 part k (ground-sound s h e) .byte)
+
+-- a finish that is accepted has an accepted scanner
+finish-accepts : (s : Scanner) → finished s .refusal ≡ Accepted → scannerGround s ≡ Accepted
+unfolding finished
+finish-accepts s e = by-test (accepted (scannerGround s)) refl
+  where
+    by-test : (t : Bool) → accepted (scannerGround s) ≡ t → scannerGround s ≡ Accepted
+    by-test true a = no-ground _ a
+    by-test false a = rw a at e
+
+-- and a feeding is calls, as long as bytes are fed
+pub feeding-calls : {s : Scanner} {since : List ℕ} {parts cs : List (List ℕ)} → Feeding s since parts cs
+    → s .value < 256 → Bytes (joined parts) → FeedCalls (numbersOf s) since parts cs
+unfolding scannerFed scannerFinished finished
+feeding-calls (splitting.cutting {s} {since} {part} {parts} {cs} r c g) h k =
+    let accepts = sym (fed-ground s part) ∙ r in
+    let ground = numbers-of s h ∙ accepts in
+    let b = bytes-parts part (joined parts) k in
+    let f = fed s part in
+    let rest = feeding-calls g (value-byte s part h (b .0) accepts)
+    (bytes-append (drop (f .consumed) part) (joined parts) (bytes-drop (f .consumed) part (b .0)) (b .1)) in
+    cutting {n = numbersOf s} {since = since} {part = part} {parts = parts} {cs = cs} {consumed = f .consumed} (rw ground) (rw (ground, c)) (rw ground rest)
+feeding-calls (splitting.passing {s} {since} {part} {parts} {cs} r c n g) h k =
+    let accepts = sym (fed-ground s part) ∙ r in
+    let ground = numbers-of s h ∙ accepts in
+    let b = bytes-parts part (joined parts) k in
+    passing {n = numbersOf s} {since = since} {part = part} {parts = parts} {cs = cs} (rw ground) (rw (ground, c, n))
+    (rw ground (feeding-calls g (value-byte s part h (b .0) accepts) (b .1)))
+feeding-calls (splitting.finishing {s} {since} r n) h k =
+    let ground = numbers-of s h ∙ finish-accepts s r in
+    finishing {n = numbersOf s} {since = since} (rw ground) (rw (ground, finish-accepts s r) (rw (finish-accepts s r) at n))
+
+-- from hirunvel_scanner_open on
+module _ (w : ℕ) (allowed : scannerOpened w .refusal ≡ 0) where
+  window : windowAllowed w ≡ true
+  unfolding scannerOpened chunker.opened
+  window = by-test (windowAllowed w) refl
+    where
+      by-test : (t : Bool) → windowAllowed w ≡ t → t ≡ true
+      by-test true e = refl
+      by-test false e = absurd (let z : _≡_ {A = ℕ} 1 0 = rw e at allowed in omega arith)
+
+  -- feeding the parts of a job, however it is split, gives the chunks of the job
+  pub every-splitting-called : (parts : List (List ℕ)) → Bytes (joined parts)
+      → FeedCalls (scannerOpened w .scanner) [] parts (chunks w (joined parts))
+  unfolding scannerOpened
+  every-splitting-called parts k =
+      let byte : chunker.opened w .scanner .value < 256 = rw (opened-fresh w window) (omega arith) in
+      feeding-calls (every-splitting w window parts k) byte k
+
+  -- and no others
+  pub only-splitting-called : (parts cs : List (List ℕ)) → FeedCalls (scannerOpened w .scanner) [] parts cs
+      → cs ≡ chunks w (joined parts)
+  unfolding scannerOpened
+  only-splitting-called parts cs g = only-splitting w window parts cs (calls-feeding g)

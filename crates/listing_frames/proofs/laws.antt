@@ -1,0 +1,4 @@
+pub mod Stores
+pub mod Walking
+pub mod NewChunks
+pub mod Listed

@@ -1,0 +1,115 @@
+-- The listing of a job, by how its admission ends, and the output in which it stands.
+use Prim.Native.Nat.{ℕ, _+_, _*_, _≤_, _<_}
+use native.Mathlib.Omega.{arith}
+use native.Mathlib.Nat.{zero-add}
+use mathlib.Core.Path.{_≡_, refl, ap, sym, _∙_}
+use mathlib.Core.Bool.{true}
+use mathlib.Core.List.{List, [], _++_, map}
+use lib.ListN.{length, drop, length-append, length-map, take-append-drop}
+use lib.Seq.{sets, sets-eq}
+use borrow.Author.Tests.{le-leb, lt-leb}
+use Rattle.refusal.specs.Number.{numberOf, accepted}
+use Rattle.refusal.specs.declared.Refusal.{Refusal}
+use Rattle.refusal.specs.declared.Refusal.the-variants.{JobLength}
+use Rattle.refusal.proofs.laws.NoGround.{no-ground}
+use Rattle.chunker.specs.Bytes.{Bytes}
+use Rattle.chunker.specs.Scanner.{windowAllowed}
+use Rattle.chunker.specs.Chunks.{chunks}
+use Rattle.store.specs.declared.Opened.{Opened}
+use Rattle.store.specs.Memory.{chunksFrom}
+use Rattle.store.specs.Contents.{number, grown}
+use Rattle.store.specs.Opening.{fresh, opened}
+use Rattle.store.proofs.laws.grounds.Entries.{fresh-fits}
+use Rattle.admission.specs.Admission.{Admission, admitted, recipeOf}
+use Rattle.admission.proofs.laws.Admissions.{adds}
+use Rattle.listing_frames.specs.Frames.{window, longestJob, frameBytes, chunkFrames, lastFrame, refusedFrame, outcome, admittedFrames, listing, refusalOf, written, listed}
+use Rattle.listing_frames.specs.internal.Counted.{countedFrames}
+use Rattle.listing_frames.proofs.laws.Stores.{sets-then}
+use Rattle.listing_frames.proofs.laws.Walking.{frame-length, counted-length}
+use Rattle.listing_frames.proofs.laws.NewChunks.{counted-first, counted-front}
+
+-- the frames that the code writes for an accepted job
+abbrev pub codedFrames : List ℕ → Admission → List ℕ
+codedFrames job a =
+    countedFrames 0 0 (chunks window job) (a .recipe)
+    ++ lastFrame (a .answer .«new_bytes») (length job) (a .answer .refusal)
+
+-- a job that a fresh store accepts
+pub record Accepts (job : List ℕ) (a : Admission) : Type 0 where
+  -- there is a number for each chunk
+  pub enough : length (chunks window job) ≤ length (a .recipe)
+  pub frames : admittedFrames job a ≡ codedFrames job a
+
+module _ (pool directory recipe job : List ℕ) (bytes : Bytes job) where
+  pub accepts : (a : Admission) → a ≡ admitted (fresh window) pool directory recipe job
+      → accepted (a .answer .refusal) ≡ true → Accepts job a
+  unfolding chunksFrom
+  accepts a same done =
+      let cs = chunks window job in
+      let numbers : recipeOf a ≡ map (number (grown [] cs)) cs =
+      rw same
+      (adds (fresh window) pool directory recipe job (fresh-fits window pool directory) bytes (rw same at done) .recipe) in
+      let n = a .answer .«recipe_length» in
+      let parts = take-append-drop n (a .recipe) in
+      let many : length (recipeOf a) ≡ length cs = ap length numbers ∙ length-map cs _ in
+      let all : countedFrames 0 0 cs (a .recipe) ≡ countedFrames 0 0 cs (recipeOf a) =
+      ap (countedFrames 0 0 cs) (sym parts) ∙ counted-front 0 0 cs (recipeOf a) (drop n (a .recipe)) (omega arith) in
+      let first : countedFrames 0 0 cs (recipeOf a) ≡ chunkFrames [] 0 cs (recipeOf a) =
+      rw numbers (counted-first [] [] (λ c. refl) 0 cs) in
+      record {
+        enough = omega (arith, length-append (recipeOf a) (drop n (a .recipe)), ap length parts);
+        frames = rw (done, all, first, no-ground (a .answer .refusal) done);
+      }
+
+-- the head that opening gives is a fresh one
+pub fresh-head : (o : Opened) → o ≡ opened window → o .head ≡ fresh window
+unfolding opened windowAllowed
+fresh-head o e = rw e
+
+-- too long a job
+pub long-listed : (job output : List ℕ) → longestJob < length job
+    → listed job output ≡ written JobLength (refusedFrame JobLength) output
+unfolding listed listing refusalOf
+long-listed job output h = rw (lt-leb _ _ h)
+
+-- a job that is short enough
+pub short-listed : (job output : List ℕ) → length job ≤ longestJob → (a : Admission) → a ≡ outcome job
+    → listed job output ≡ written (a .answer .refusal) (admittedFrames job a) output
+unfolding listed listing refusalOf
+short-listed job output h a e = rw (le-leb _ _ h, e)
+
+-- the text and the refusal are told, and the text stands at the front of the output
+abbrev pub Stands : Refusal → List ℕ → List ℕ → List ℕ → ℕ → Type 0
+Stands refusal text before after end =
+    record { answer = record { refusal = refusal; written = end }; output = after } ≡ written refusal text before
+
+at-front : (refusal : Refusal) (text before after : List ℕ) (end : ℕ) → length text ≤ length before → end ≡ length text
+    → after ≡ sets before 0 text → Stands refusal text before after end
+at-front refusal text before after end room told e = rw (told, e, sets-eq text before 0 (omega arith), zero-add)
+
+-- one frame
+pub one-stands : (refusal : Refusal) (before after : List ℕ) (end : ℕ) → frameBytes ≤ length before
+    → end ≡ 0 + frameBytes → after ≡ sets before 0 (refusedFrame refusal)
+    → Stands refusal (refusedFrame refusal) before after end
+one-stands refusal before after end room told stored =
+    let size = frame-length 65535 0 0 (numberOf refusal) in
+    at-front refusal (refusedFrame refusal) before after end (omega arith) (omega arith) stored
+
+-- the frames of an accepted job
+pub all-stand : (before between after job : List ℕ) (a : Admission) (middle end : ℕ) → Accepts job a
+    → frameBytes * length (chunks window job) + frameBytes ≤ length before
+    → middle ≡ frameBytes * length (chunks window job)
+    → between ≡ sets before 0 (countedFrames 0 0 (chunks window job) (a .recipe))
+    → end ≡ middle + frameBytes
+    → after ≡ sets between middle (lastFrame (a .answer .«new_bytes») (length job) (a .answer .refusal))
+    → Stands (a .answer .refusal) (admittedFrames job a) before after end
+all-stand before between after job a middle end k room half stored told last =
+    let counted = countedFrames 0 0 (chunks window job) (a .recipe) in
+    let final = lastFrame (a .answer .«new_bytes») (length job) (a .answer .refusal) in
+    let size = counted-length 0 0 (chunks window job) (a .recipe) (k .enough) in
+    let whole : length (codedFrames job a) ≡ frameBytes * length (chunks window job) + frameBytes =
+    rw (length-append counted final, size, frame-length _ _ _ _) in
+    let both = sets-then counted final before 0 (frameBytes * length (chunks window job)) middle size (omega arith) in
+    rw (k .frames)
+    (at-front (a .answer .refusal) (codedFrames job a) before after end (omega arith) (omega arith)
+    (last ∙ rw stored (sym both)))

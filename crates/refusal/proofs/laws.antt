@@ -1,0 +1,2 @@
+pub mod NoGround
+pub mod Grounds

@@ -1,0 +1,4 @@
+pub mod Sameness
+pub mod Numbering
+pub mod Growth
+pub mod Members
