@@ -1,24 +1,10 @@
-//! The numbers and arrays of `include/hirunvel.h`, which the library and the plain implementations share.
+//! What the library and the plain implementations share: the numbers of `include/hirunvel.h`, and its arrays as structs.
 
-// The grounds on which work is turned away.
-pub const ACCEPTED: u32 = 0;
-pub const WINDOW: u32 = 1;
-pub const UNSOUND: u32 = 2;
-pub const JOB_LENGTH: u32 = 3;
-pub const MEMORY_LIMIT: u32 = 4;
-pub const HEAD: u32 = 5;
-pub const RECIPE_FULL: u32 = 6;
-pub const DIRECTORY_FULL: u32 = 7;
-pub const POOL_FULL: u32 = 8;
-pub const CHUNK_NUMBER: u32 = 9;
-pub const OUTPUT_SHORT: u32 = 10;
-
-// The limits behind the grounds 1, 3 and 4.
-pub const WINDOW_LIMIT: u32 = 1024;
-pub const JOB_LIMIT: usize = 16_777_216;
-pub const POOL_LIMIT: usize = 67_108_864;
-pub const DIRECTORY_LIMIT: usize = 131_070;
-pub const RECIPE_LIMIT: usize = 65_535;
+pub use crate::hirunvel::{
+    ACCEPTED, CHUNK_NUMBER, DIRECTORY_FULL, DIRECTORY_LIMIT, HEAD, JOB_LENGTH, JOB_LIMIT,
+    MEMORY_LIMIT, OUTPUT_SHORT, POOL_FULL, POOL_LIMIT, RECIPE_FULL, RECIPE_LIMIT, UNSOUND, WINDOW,
+    WINDOW_LIMIT,
+};
 
 /// A scanner: the window, the bytes since the last cut, the place of the largest of them, counted from 1 and first on
 /// a tie, and its value.
@@ -43,7 +29,7 @@ impl Scanner {
     }
 }
 
-/// What a feed tells: the bytes consumed, and 1 where a cut follows them or 0.
+/// What a feed reports: the bytes consumed; and 1 if a cut follows them, else 0.
 #[repr(C)]
 #[derive(Clone, Copy, Default, PartialEq)]
 pub struct Fed {
@@ -51,7 +37,7 @@ pub struct Fed {
     pub cut: u64,
 }
 
-/// A store's head: the window, the number of chunks and of pool bytes that are filled.
+/// A store's head: the window, the number of chunks, and the pool's bytes in use.
 #[repr(C)]
 #[derive(Clone, Copy, PartialEq)]
 pub struct Head {
@@ -71,7 +57,7 @@ impl Head {
     }
 }
 
-/// What an admission tells: the recipe's length, the bytes of the new chunks and those of the repeated ones; and the
+/// What an admission reports: the recipe's length, the bytes of the new chunks and those of the repeated ones; and the
 /// saving.
 #[derive(Clone, Copy, Default, PartialEq)]
 pub struct Admitted {

@@ -1,58 +1,18 @@
-//! The measured library, declared as `include/hirunvel.h` does, and the count of a job's chunks, an archive of its own;
-//! with a safe function for each that is measured.
+//! The measured library, and the count of a job's chunks, an archive of its own: a safe function over each C function
+//! that is measured.
 
+use crate::hirunvel::{
+    hirunvel_rebuild, hirunvel_scanner_feed, hirunvel_store_admit, hirunvel_store_look,
+};
 use crate::interface::{Admitted, Fed, Head, Scanner};
+use std::{array, ptr};
 
 #[link(name = "chunk_count", kind = "static")]
-extern "C" {
+unsafe extern "C" {
     fn hirunvel_chunk_count(window: u32, job: *const u8, job_len: usize) -> u64;
 }
 
-#[link(name = "hirunvel", kind = "static")]
-extern "C" {
-    fn hirunvel_scanner_feed(
-        scanner: *mut Scanner,
-        part: *const u8,
-        part_len: usize,
-        fed: *mut Fed,
-    ) -> u32;
-    fn hirunvel_store_admit(
-        head: *mut Head,
-        pool: *mut u8,
-        pool_len: usize,
-        directory: *mut u32,
-        directory_len: usize,
-        recipe: *mut u32,
-        recipe_len: usize,
-        job: *const u8,
-        job_len: usize,
-        counts: *mut [u64; 3],
-        saving: *mut i64,
-    ) -> u32;
-    fn hirunvel_store_look(
-        head: *const Head,
-        pool: *const u8,
-        pool_len: usize,
-        directory: *const u32,
-        directory_len: usize,
-        number: u32,
-        stretch: *mut [u64; 2],
-    ) -> u32;
-    fn hirunvel_rebuild(
-        head: *const Head,
-        pool: *const u8,
-        pool_len: usize,
-        directory: *const u32,
-        directory_len: usize,
-        recipe: *const u32,
-        recipe_len: usize,
-        output: *mut u8,
-        output_len: usize,
-        written: *mut u64,
-    ) -> u32;
-}
-
-/// The number of chunks of a job; 0 where the window is refused.
+/// The number of chunks of a job; 0 if the window is refused.
 pub fn chunk_count(window: u32, job: &[u8]) -> u64 {
     // SAFETY: the pointer and the length are those of a slice, which is only read.
     unsafe { hirunvel_chunk_count(window, job.as_ptr(), job.len()) }
@@ -62,7 +22,14 @@ pub fn chunk_count(window: u32, job: &[u8]) -> u64 {
 pub fn feed(scanner: &mut Scanner, part: &[u8], fed: &mut Fed) -> u32 {
     // SAFETY: the part is a slice, which is only read; `Scanner` and `Fed` are laid out as the header's arrays, and the
     // references to them are exclusive.
-    unsafe { hirunvel_scanner_feed(scanner, part.as_ptr(), part.len(), fed) }
+    unsafe {
+        hirunvel_scanner_feed(
+            ptr::from_mut(scanner).cast(),
+            part.as_ptr(),
+            part.len(),
+            ptr::from_mut(fed).cast(),
+        )
+    }
 }
 
 /// Admits a job.
@@ -78,7 +45,7 @@ pub fn admit(
     // header's array, and the references to it and to the counts are exclusive.
     unsafe {
         hirunvel_store_admit(
-            head,
+            ptr::from_mut(head).cast(),
             pool.as_mut_ptr(),
             pool.len(),
             directory.as_mut_ptr(),
@@ -88,7 +55,7 @@ pub fn admit(
             job.as_ptr(),
             job.len(),
             &mut admitted.counts,
-            &mut admitted.saving,
+            array::from_mut(&mut admitted.saving),
         )
     }
 }
@@ -105,7 +72,7 @@ pub fn look(
     // array, and the reference to the stretch is exclusive.
     unsafe {
         hirunvel_store_look(
-            head,
+            ptr::from_ref(head).cast(),
             pool.as_ptr(),
             pool.len(),
             directory.as_ptr(),
@@ -129,7 +96,7 @@ pub fn rebuild(
     // header's array, and the reference to the number of bytes is exclusive.
     unsafe {
         hirunvel_rebuild(
-            head,
+            ptr::from_ref(head).cast(),
             pool.as_ptr(),
             pool.len(),
             directory.as_ptr(),
@@ -138,7 +105,7 @@ pub fn rebuild(
             recipe.len(),
             output.as_mut_ptr(),
             output.len(),
-            written,
+            array::from_mut(written),
         )
     }
 }

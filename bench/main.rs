@@ -5,6 +5,8 @@ mod agreement;
 mod comparison;
 mod feeding;
 mod growth;
+#[path = "../include/hirunvel.rs"]
+mod hirunvel;
 mod interface;
 mod library;
 mod limits;
@@ -39,10 +41,10 @@ impl Inputs {
     }
 }
 
-/// What measures a part of the run for a time.
+/// Measures a part of the run for a given time.
 type Measure<'a> = Box<dyn FnOnce(Duration) -> Report + 'a>;
 
-/// A part's name, what prepares it and compares its contestants' results, and the seconds that it measures.
+/// A part of the run: its name, what prepares it and compares its contestants' results, and the seconds to measure.
 type Part = (&'static str, fn(&Inputs) -> Measure<'_>, u64);
 
 const PARTS: [Part; 5] = [
@@ -53,8 +55,7 @@ const PARTS: [Part; 5] = [
     ("growth", growth::prepare, 75),
 ];
 
-/// The arguments: the inputs' folder; then the parts to run, all where none is named; and `quick` for a tenth of the
-/// time.
+/// The arguments: the inputs' folder; then the parts to run, all if none is named; and `quick` for a tenth of the time.
 fn main() {
     let start = Instant::now();
     let mut arguments = std::env::args().skip(1);

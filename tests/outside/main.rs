@@ -15,6 +15,8 @@ mod calling;
 mod examples;
 mod feeding;
 mod forging;
+#[path = "../../include/hirunvel.rs"]
+mod hirunvel;
 mod history;
 mod jobs;
 mod library;
