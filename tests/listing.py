@@ -1,12 +1,12 @@
-"""Compares the listing program with a second listing, which is written from document 01 alone.
-
-    python3 tests/listing.py [PROGRAM]          compares, and tells how many runs agree
-    python3 tests/listing.py --jobs FILE..      lists jobs that are admitted to one store, one after another
+"""Compares the listing program with a second listing, which is written from document 01 alone, and with the stored
+runs. With --jobs, prints the second listing instead.
 """
 
+import argparse
 import contextlib
 import pathlib
 import random
+import shutil
 import subprocess
 import sys
 import time
@@ -17,6 +17,7 @@ ENTRIES = 1024
 RECIPE_PLACES = 1024
 LONGEST_JOB = 16384
 
+# The jobs of the stored runs. Beside each is its listing.
 HERE = pathlib.Path(__file__).parent
 STORED = sorted([*(HERE.parent / "docs/example").glob("*.zpl"), *(HERE / "runs").glob("*.job")])
 
@@ -44,7 +45,7 @@ def chunks(job, window=WINDOW):
 
 
 class Store:
-    """Chunks by number, in a pool and a directory that are full at some point."""
+    """Chunks by number, in a pool and a directory of limited size."""
 
     def __init__(self, window=WINDOW):
         self.window = window
@@ -103,7 +104,7 @@ def rises(dice, size):
 
 
 def inputs(dice):
-    """The inputs, each with what it is."""
+    """The inputs, each after its description."""
     for size in (0, 1, 2, 4, 5, 6, 9, 10, 11, 12, 255, 256, 5119, 5120, 5121, 8192, 16383, 16384, 16385, 16386, 200000):
         yield f"{size} equal bytes", b"A" * size
         yield f"{size} rising bytes", bytes(i % 256 for i in range(size))
@@ -122,90 +123,120 @@ def inputs(dice):
         yield f"{n}: labels of {len(job)} bytes", job
         part = b"".join(dice.choice((job[:300], job[100:500], label(dice))) for _ in range(dice.randint(1, 12)))
         yield f"{n}: parts of labels, {len(part)} bytes", part
-    for path in STORED:
-        yield str(path), path.read_bytes()
 
 
-def pieces(dice, job):
-    """A job in parts of a few bytes, so that reads are short."""
+def split(dice, job):
+    """A job in parts of any length up to a quarter of what is left, so that reads are short."""
     while job:
         n = dice.randint(1, max(1, len(job) // 4))
         yield job[:n]
         job = job[n:]
 
 
+def run(program, job):
+    """A run with the job as standard input."""
+    return subprocess.run([program], input=job, capture_output=True)
+
+
 def run_slowly(program, parts):
-    """What the program prints where standard input is a pipe that brings one part at a time. The program reads no
-    more than it needs to see that a job is too long, so the pipe may break."""
-    with subprocess.Popen([program], stdin=subprocess.PIPE, stdout=subprocess.PIPE, bufsize=0) as process:
+    """A run whose standard input is a pipe that brings one part at a time. The program reads no more than it needs to
+    see that a job is too long, so the pipe may break."""
+    pipe = subprocess.PIPE
+    with subprocess.Popen([program], stdin=pipe, stdout=pipe, stderr=pipe, bufsize=0) as process:
         with contextlib.suppress(BrokenPipeError):
             for part in parts:
                 process.stdin.write(part)
                 time.sleep(0.003)
-        process.stdin.close()
-        return process.stdout.read()
+        printed, messages = process.communicate()
+    return subprocess.CompletedProcess(process.args, process.returncode, printed, messages)
 
 
 def run_by_shell(program, redirection):
+    """A run with standard input or output redirected."""
     return subprocess.run(["/bin/sh", "-c", f'exec "$0" {redirection}', program], capture_output=True, check=True)
 
 
+def expect_message(what, done, beginning):
+    """Ends the comparison unless a line on standard error begins so."""
+    if not any(line.startswith(beginning) for line in done.stderr.splitlines()):
+        sys.exit(f"{what}: standard error is {done.stderr!r}, without {beginning!r}")
+
+
 class Comparison:
+    """Counts the runs that agree, and ends at the first that does not."""
+
     def __init__(self):
         self.agree = 0
         self.refusals = {}
 
-    def check(self, what, printed, expected):
-        """Counts an agreement; ends the run at the first difference."""
-        if printed != expected:
-            lines = list(zip(printed.split(b"\n"), expected.split(b"\n")))
+    def check(self, what, done, expected):
+        """Compares what a run printed. Standard error must be empty if the job is accepted, and only then."""
+        if done.returncode != 0:
+            sys.exit(f"{what}: the exit status is {done.returncode}")
+        if done.stdout != expected:
+            lines = list(zip(done.stdout.split(b"\n"), expected.split(b"\n")))
             place = next((i for i, (a, b) in enumerate(lines) if a != b), len(lines) - 1)
             sys.exit(f"{what}: line {place + 1} is {lines[place][0]!r}, and not {lines[place][1]!r}")
-        self.agree += 1
         refusal = expected[-3:-1].decode()
+        if (done.stderr == b"") != (refusal == "00"):
+            sys.exit(f"{what}: the refusal is {refusal}, and standard error is {done.stderr!r}")
+        self.agree += 1
         self.refusals[refusal] = self.refusals.get(refusal, 0) + 1
 
 
-def expect_message(redirection, printed, expected):
-    if not printed.startswith(expected):
-        sys.exit(f"with {redirection} standard error has {printed!r}, and not {expected!r}")
-
-
 def compare(program):
-    """Runs the program over all inputs. A full pool cannot be had, since it has twice the bytes of the longest job, nor
-    a full directory, since the recipe has as many places and is tested first."""
+    """Runs the program over all inputs. The pool is never full, since it has twice the bytes of the longest job, nor is
+    the directory, since the recipe has as many places and is tested first."""
     dice = random.Random(20240501)
     comparison = Comparison()
     for what, job in inputs(dice):
-        done = subprocess.run([program], input=job, stdout=subprocess.PIPE, check=True)
-        comparison.check(what, done.stdout, listing(job))
+        comparison.check(what, run(program, job), listing(job))
     for path in STORED:
-        done = subprocess.run([program], input=path.read_bytes(), stdout=subprocess.PIPE, check=True)
-        comparison.check(f"the stored run of {path}", done.stdout, path.with_suffix(".listing").read_bytes())
+        job = path.read_bytes()
+        done = run(program, job)
+        comparison.check(f"{path}, by the stored listing", done, path.with_suffix(".listing").read_bytes())
+        comparison.check(f"{path}, by the second listing", done, listing(job))
     for n in range(40):
         job = dice.choice((label(dice) * 3, dice.randbytes(600), rises(dice, 3000), b"A" * 16390))
-        comparison.check(f"short reads {n}", run_slowly(program, pieces(dice, job)), listing(job))
+        comparison.check(f"short reads {n}", run_slowly(program, split(dice, job)), listing(job))
     for redirection in ("< .", "<&-"):
         done = run_by_shell(program, redirection)
-        comparison.check(f"unread input, {redirection}", done.stdout, listing(b""))
-        expect_message(redirection, done.stderr, b"listing: standard input: ")
+        comparison.check(f"unread input, {redirection}", done, listing(b""))
+        expect_message(redirection, done, b"listing: standard input: ")
     done = run_by_shell(program, "< /dev/null > /dev/full")
-    expect_message("> /dev/full", done.stderr, b"listing: standard output: ")
+    expect_message("> /dev/full", done, b"listing: standard output: ")
     return comparison
 
 
-def show(paths):
-    """Lists jobs that are admitted to one store, one after another."""
+def show(jobs):
+    """Prints the second listing of jobs that are admitted to one store, one after another."""
     store = Store()
-    for path in paths:
+    for path, job in jobs:
         print(path)
-        print(listing(pathlib.Path(path).read_bytes(), store).decode(), end="")
+        print(listing(job, store).decode(), end="")
+
+
+def named_job(path):
+    """The path and the bytes of a job."""
+    try:
+        return path, pathlib.Path(path).read_bytes()
+    except OSError as fault:
+        raise argparse.ArgumentTypeError(f"{path}: {fault.strerror}") from None
 
 
 def main():
-    if sys.argv[1:2] == ["--jobs"]:
-        return show(sys.argv[2:])
-    comparison = compare(sys.argv[1] if len(sys.argv) > 1 else "target/bin/listing")
+    parser = argparse.ArgumentParser(description=__doc__)
+    words = parser.add_mutually_exclusive_group()
+    words.add_argument(
+        "program", nargs="?", metavar="PROGRAM", default="target/bin/listing", help="the listing program (%(default)s)"
+    )
+    words.add_argument("--jobs", nargs="+", type=named_job, metavar="FILE", help="jobs to admit to one store, in order")
+    chosen = parser.parse_args()
+    if chosen.jobs:
+        return show(chosen.jobs)
+    if shutil.which(chosen.program) is None:
+        parser.error(f"{chosen.program}: no such program")
+    comparison = compare(chosen.program)
     refusals = ", ".join(f"{n} with refusal {r}" for r, n in sorted(comparison.refusals.items()))
     print(f"listing: {comparison.agree} listings agree ({refusals})")
 
