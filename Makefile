@@ -1,30 +1,52 @@
 # Each target does all of its own set-up.
 export RT_JOBS ?= 2
 
-.PHONY: test list example bench
+.PHONY: help test list job example bench
+.NOTPARALLEL:
+.DELETE_ON_ERROR:
+
+help:
+	@echo "make help            this list"
+	@echo "make test            all proofs from scratch, the must-fail edits and all other tests"
+	@echo "                     (about 12 minutes on two cores)"
+	@echo "make list JOB=FILE   the frames of a job"
+	@echo "                     (about 4 minutes the first time, to prove and build the program; then at once)"
+	@echo "make example         a label and its revision, admitted and rebuilt from C"
+	@echo "                     (about 4 minutes the first time, to prove and build the library; then at once)"
+	@echo "make bench           the library measured beside plain Rust"
+	@echo "                     (about 15 minutes)"
+
 test:
 	@tests/run
 
-# Prints the frames of a job, the first of a fresh store: make list JOB=FILE
-list:
-	@test -f "$(JOB)" || { echo "make list JOB=FILE: the file with the job" >&2; exit 1; }
-	@mkdir -p target
-	@rt check listing >target/list.log 2>&1 || { cat target/list.log; exit 1; }
-	@target/bin/listing <"$(JOB)"
+# Prints the frames of a job, the first of a fresh store.
+list: job target/bin/listing
+	@target/bin/listing <"$$JOB"
+
+job:
+	@tools/job "$$JOB"
 
 # Admits a label and its revision to one store, from C, and rebuilds both.
-example:
+example: target/staticlib/libhirunvel.a
 	@mkdir -p target/example
-	@rt staticlib hirunvel >target/example/staticlib.log 2>&1 || { cat target/example/staticlib.log; exit 1; }
 	@cc -std=c99 -Iinclude -o target/example/label_revision examples/label_revision.c -Ltarget/staticlib -lhirunvel
 	@target/example/label_revision docs/example/label.zpl docs/example/label-2.zpl
 
 # Measures the library beside plain implementations of the same operations. Without position-independent code the calls
-# of the archive are direct, as the twins' are.
-bench:
+# of the archive are direct, as those of the plain ones are.
+bench: target/staticlib/libhirunvel.a target/staticlib/libchunk_count.a
 	@mkdir -p target/bench
-	@for crate in hirunvel chunk_count; do rt staticlib $$crate >target/bench/staticlib.log 2>&1 \
-		|| { cat target/bench/staticlib.log; exit 1; }; done
 	@python3 bench/inputs.py target/bench
 	@rustc --edition 2021 -O -C relocation-model=static -L native=target/staticlib -o target/bench/bench bench/main.rs
 	@target/bench/bench target/bench
+
+# A program, and a library for C: proved and built again if anything in the crates is newer.
+crates := crates.txt $(shell find crates)
+
+target/bin/%: $(crates)
+	@tools/prove $*
+	@touch -c $@
+
+target/staticlib/lib%.a: $(crates)
+	@tools/prove $*
+	@touch -c $@
