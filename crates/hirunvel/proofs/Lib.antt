@@ -1,3 +1,3 @@
--- theorems/ has what is promised of calls from C; laws/ leads from the crates below to the definitions over numbers.
+-- theorems/ has what a look tells; laws/ leads from the crates below to the definitions over numbers.
 pub mod laws
 pub mod theorems

@@ -1,3 +1,1 @@
 pub mod OwnStretch
-pub mod Calls
-pub mod Feeding

@@ -5,3 +5,5 @@ pub mod Promise
 pub mod StarredJobs
 pub mod Witnesses
 pub mod EqualTail
+pub mod Calls
+pub mod FeedCalls

@@ -16,10 +16,13 @@ firstAppearances earlier (c ∷ cs) =
     cond (has earlier c) 0 (length c) + firstAppearances (earlier ++ (c ∷ [])) cs
 
 -- "For an accepted job, new bytes is the sum of the lengths of its new pieces, and repeated bytes that of the others":
--- the counts of the admission of place i, if it is accepted; together they are the bytes of the job
-pub record FirstAppearances (w : ℕ) (s : State) (events : List Event) (i : ℕ) (job recipe : List ℕ) : Type 0 where
-  pub new : outcomeAt s events i job recipe .answer .«new_bytes»
-      ≡ firstAppearances (chunksBefore s events i) (chunks w job)
-  pub all :
-      outcomeAt s events i job recipe .answer .«new_bytes» + outcomeAt s events i job recipe .answer .«repeated_bytes»
-      ≡ length job
+-- together they are the bytes of the job
+pub record FirstAppearances (w : ℕ) (earlier : List (List ℕ)) (job : List ℕ) (new repeated : ℕ) : Type 0 where
+  pub first : new ≡ firstAppearances earlier (chunks w job)
+  pub all : new + repeated ≡ length job
+
+-- the counts of the admission of place i, if it is accepted, by the jobs accepted before
+abbrev pub FirstAppearancesAt : ℕ → State → List Event → ℕ → List ℕ → List ℕ → Type 0
+FirstAppearancesAt w s events i job recipe =
+    let answer = outcomeAt s events i job recipe .answer in
+    FirstAppearances w (chunksBefore s events i) job (answer .«new_bytes») (answer .«repeated_bytes»)

@@ -1,6 +1,9 @@
--- History is a list of events from a fresh store; the others are what is promised of it, a file for each demand.
+-- History is a list of events from a fresh store; FirstAppearances, GivesBack, NumbersStay and Promise are what is promised of it.
+-- Calls and FeedCalls are a C program's calls one after another, and what is promised of them.
 pub mod History
 pub mod FirstAppearances
 pub mod GivesBack
 pub mod NumbersStay
 pub mod Promise
+pub mod Calls
+pub mod FeedCalls

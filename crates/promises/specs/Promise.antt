@@ -17,23 +17,26 @@ numbersAfter zero (c ∷ cs) (x ∷ xs) = x ∷ xs
 numbersAfter (suc n) (c ∷ cs) (x ∷ xs) = numbersAfter (suc n - length c) cs xs
 
 -- "The old job is a beginning, a replaced stretch and an ending, laid end to end; the revision is that beginning, the
--- changed stretch and that ending": what is promised of the accepted places i and j of a list of events
-pub record Promised (w : ℕ) (s : State) (events : List Event) (i j : ℕ)
-    (beginning replaced changed ending oldRecipe newRecipe : List ℕ) (k : ℕ) : Type 0 where
+-- changed stretch and that ending": what is promised of the revision's charge and of the recipes of both
+pub record Promised (w : ℕ) (beginning replaced changed ending : List ℕ) (k charge : ℕ) (oldRecipe newRecipe : List ℕ)
+    : Type 0 where
   -- "the charge .. is at most the changed stretch's length + k + 257 × w"
-  pub ceiling :
-      outcomeAt s events j (beginning ++ (changed ++ ending)) newRecipe .answer .«new_bytes»
-      ≤ length changed + k + 257 * w
+  pub ceiling : charge ≤ length changed + k + 257 * w
   -- "from place k + w of the ending on both jobs have exactly the same cuts"
   pub linedUp : LinedUp w (beginning ++ replaced) (beginning ++ changed) ending k
   -- "the pieces starting after it are equally many, with the same numbers in the same order"
   pub sameNumbers :
-      numbersAfter (length (beginning ++ replaced) + (k + w)) (chunks w (beginning ++ (replaced ++ ending)))
-      (recipeOf (outcomeAt s events i (beginning ++ (replaced ++ ending)) oldRecipe))
-      ≡ numbersAfter (length (beginning ++ changed) + (k + w)) (chunks w (beginning ++ (changed ++ ending)))
-      (recipeOf (outcomeAt s events j (beginning ++ (changed ++ ending)) newRecipe))
+      numbersAfter (length (beginning ++ replaced) + (k + w)) (chunks w (beginning ++ (replaced ++ ending))) oldRecipe
+      ≡ numbersAfter (length (beginning ++ changed) + (k + w)) (chunks w (beginning ++ (changed ++ ending))) newRecipe
   -- .. and there is a number for each of them
   pub equallyMany :
-      length (numbersAfter (length (beginning ++ replaced) + (k + w)) (chunks w (beginning ++ (replaced ++ ending)))
-      (recipeOf (outcomeAt s events i (beginning ++ (replaced ++ ending)) oldRecipe)))
+      length
+      (numbersAfter (length (beginning ++ replaced) + (k + w)) (chunks w (beginning ++ (replaced ++ ending))) oldRecipe)
       ≡ length (startingAfter (length (beginning ++ replaced) + (k + w)) (chunks w (beginning ++ (replaced ++ ending))))
+
+-- of the accepted places i and j of a list of events, where memory was lent for the recipes
+abbrev pub PromisedAt : ℕ → State → List Event → ℕ → ℕ → List ℕ → List ℕ → List ℕ → List ℕ → List ℕ → List ℕ → ℕ → Type 0
+PromisedAt w s events i j beginning replaced changed ending oldLent newLent k =
+    let old = outcomeAt s events i (beginning ++ (replaced ++ ending)) oldLent in
+    let new = outcomeAt s events j (beginning ++ (changed ++ ending)) newLent in
+    Promised w beginning replaced changed ending k (new .answer .«new_bytes») (recipeOf old) (recipeOf new)

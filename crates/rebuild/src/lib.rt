@@ -7,7 +7,6 @@ ghost use Rattle.rebuild.specs.Rebuilding.{rebuiltBytes, rebuilt};
 ghost use Rattle.rebuild.specs.internal.Located.{Located};
 
 mod grounds;
-mod staging;
 
 use directory::STRIDE;
 use refusal::Refusal;

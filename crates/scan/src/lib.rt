@@ -6,7 +6,6 @@ ghost use Prim.Native.Nat.{_≤_};
 ghost use Rattle.scan.specs.Limits.{windowLimit};
 ghost use Rattle.scan.specs.Scanner.{fresh};
 ghost use Rattle.scan.specs.Scan.{scan};
-ghost use Rattle.scan.specs.internal.Sound.{Sound};
 
 pub mod run;
 

@@ -20,6 +20,7 @@ use Rattle.admission.specs.Snapshot.{Snapshot, Outcome, chunkGround, aft
 use Rattle.store.proofs.laws.contents.Growth.{first-among, grown-has, number-grown}
 use Rattle.admission.proofs.laws.Writing.{SameBelow, same-itself-below, same-onwards, writing-past}
 use Rattle.admission.proofs.laws.OneChunk.{headOf, heldBy, Chunked, refuses, repeats, stores, chunked, Admits, admits-repeated, admits-stored}
+use Rattle.scan.specs.Limits.{windowLimit}
 
 -- the lengths that the layout allows
 abbrev pub Allowed : ℕ → List (List ℕ) → Type 0
@@ -31,7 +32,7 @@ last-allowed w [] h c m = absurd (List·Memᴰ·not-nil m)
 last-allowed w (b ∷ bs) h c m = rw (List·Memᴰ·eq-of-singleton m) (omega arith)
 
 -- each chunk of a job of bytes
-pub chunks-allowed : (w : ℕ) → 1 ≤ w → w ≤ 1024 → (job : List ℕ) → Bytes job → Allowed w (chunks w job)
+pub chunks-allowed : (w : ℕ) → 1 ≤ w → w ≤ windowLimit → (job : List ℕ) → Bytes job → Allowed w (chunks w job)
 unfolding chunks
 chunks-allowed w low high job bytes c m =
     ⊎-elim (λ (k : List·Memᴰ c (cutChunks (fresh w) [] job)). let s = cut-size w low high job bytes c k in omega arith)

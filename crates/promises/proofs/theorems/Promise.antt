@@ -17,7 +17,7 @@ use Rattle.chunker.proofs.theorems.SharedEnding.{chunks-append, lines-up}
 use Rattle.store.specs.Contents.{number, gained}
 use Rattle.promises.specs.History.{Event, State, start, holds, before, AcceptedAt, outcomeAt, AllBytes}
 use Rattle.admission.specs.Admission.{recipeOf}
-use Rattle.promises.specs.Promise.{Promised, numbersAfter}
+use Rattle.promises.specs.Promise.{PromisedAt, numbersAfter}
 use Rattle.store.proofs.laws.contents.Growth.{Among, among-parts, gained-between}
 use Rattle.promises.proofs.laws.Events.{Fitting, bytes-at, adds-at, named-at, start-fits}
 use Rattle.scan.specs.Limits.{windowLimit}
@@ -84,7 +84,7 @@ pub promise : (w : ℕ) (pool directory : List ℕ) (events : List Event) → Al
     → AcceptedAt (start w pool directory) events i (beginning ++ (replaced ++ ending)) oldRecipe
     → AcceptedAt (start w pool directory) events j (beginning ++ (changed ++ ending)) newRecipe
     → (k : ℕ) → KeptMaximum w ending k
-    → Promised w (start w pool directory) events i j beginning replaced changed ending oldRecipe newRecipe k
+    → PromisedAt w (start w pool directory) events i j beginning replaced changed ending oldRecipe newRecipe k
 promise w pool directory events bytes i j l beginning replaced changed ending oldRecipe newRecipe old new k kept =
     let s = start w pool directory in
     let f = start-fits w pool directory in

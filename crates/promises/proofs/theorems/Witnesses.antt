@@ -7,7 +7,7 @@ use lib.ListN.{length, replicate}
 use Rattle.chunker.specs.Bytes.{Bytes}
 use Rattle.chunker.specs.KeptMaximum.{KeptMaximum}
 use Rattle.promises.specs.History.{Event, start, AcceptedAt, outcomeAt, AllBytes}
-use Rattle.promises.specs.Promise.{Promised}
+use Rattle.promises.specs.Promise.{PromisedAt}
 use Rattle.promises.proofs.theorems.Promise.{promise}
 use Rattle.promises.proofs.theorems.StarredJobs.{risingFrom, rising, handed, counts, kept-maximum, premise-met}
 
@@ -23,7 +23,7 @@ pub record Premises (w : ℕ) (pool directory : List ℕ) (events : List Event) 
 pub promised : (w : ℕ) (pool directory : List ℕ) (events : List Event) (i j : ℕ)
     (beginning replaced changed ending oldRecipe newRecipe : List ℕ) (k : ℕ)
     → Premises w pool directory events i j beginning replaced changed ending oldRecipe newRecipe k
-    → Promised w (start w pool directory) events i j beginning replaced changed ending oldRecipe newRecipe k
+    → PromisedAt w (start w pool directory) events i j beginning replaced changed ending oldRecipe newRecipe k
 promised w pool directory events i j beginning replaced changed ending oldRecipe newRecipe k p =
     promise w pool directory events (p .bytes) i j (p .order) beginning replaced changed ending oldRecipe newRecipe
     (p .old) (p .new) k (p .kept)
@@ -46,7 +46,7 @@ pair-premises =
     }
 
 -- so it has what is promised
-pub pair-promised : Promised 2 (start 2 (replicate 32 0) (replicate 16 0)) pair 0 1
+pub pair-promised : PromisedAt 2 (start 2 (replicate 32 0) (replicate 16 0)) pair 0 1
     [] (5 ∷ []) (6 ∷ 6 ∷ []) (1 ∷ 1 ∷ 9 ∷ 2 ∷ 3 ∷ 4 ∷ []) (replicate 8 0) (replicate 8 0) 3
 pair-promised = promised _ _ _ _ _ _ _ _ _ _ _ _ _ pair-premises
 

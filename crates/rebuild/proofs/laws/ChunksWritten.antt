@@ -7,8 +7,8 @@ use mathlib.Core.List.{List, _++_}
 use lib.ListN.{length, getD, take, drop, length-append, length-take}
 use Rattle.store.specs.Memory.{chunkAt}
 use Rattle.rebuild.specs.Rebuilding.{rebuiltBytes}
-use Rattle.rebuild.specs.internal.Covered.{Covered}
-use Rattle.rebuild.proofs.laws.Parts.{Left, all-left, part-over, none-left}
+use Rattle.staging.specs.internal.Covered.{Covered}
+use Rattle.staging.proofs.laws.Parts.{Left, all-left, part-over, none-left}
 use Rattle.rebuild.proofs.laws.Recipes.{Counted, none-counted, one-counted, all-counted, one-rebuilt, none-rebuilt}
 
 -- the chunks of the numbers before place i are written, and those of the others are to follow from `at` on

@@ -14,6 +14,7 @@ use Rattle.directory.specs.Entry.{offsetAt, lengthAt}
 use Rattle.store.specs.Memory.{chunkAt}
 use Rattle.rebuild.specs.Rebuilding.{rebuiltBytes}
 use Rattle.store.specs.Grounds.{allBelow}
+use Rattle.store.specs.Limits.{poolLimit, recipeLimit}
 
 -- `below` tells whether the numbers before place i passed, those from it on are still to test, and the answer is both
 pub record Compared (chunks : ℕ) (recipe : List ℕ) (below : Bool) (i : ℕ) : Type 0 where
@@ -86,9 +87,9 @@ module _ {pool directory recipe : List ℕ} {i total : ℕ} (t : Counted pool di
       record { order = omega arith; small = omega arith; gives = omega arith }
 
   -- the total of memory within the limits is small
-  pub counted-small : length pool ≤ 67108864 → length recipe ≤ 65535 → total ≤ 65535 * 67108864
+  pub counted-small : length pool ≤ poolLimit → length recipe ≤ recipeLimit → total ≤ recipeLimit * poolLimit
   counted-small p r =
-      let few : i ≤ 65535 = omega arith in
+      let few : i ≤ recipeLimit = omega arith in
       omega (arith, mul-le-mul-right (length pool) few)
 
   -- all are counted

@@ -1,14 +1,12 @@
 -- A scan under way over a part: its numbers, and what the rest of the part gives.
 use Prim.Native.Nat.{ℕ, _+_, _-_, _*_, _≤_, _<_}
 use mathlib.Core.Path.{_≡_}
-use mathlib.Core.Bool.{true}
 use mathlib.Core.List.{List}
 use lib.ListN.{length, getD, drop}
 use Rattle.scan.specs.declared.Scanner.{Scanner}
 use Rattle.scan.specs.declared.Fed.{Fed}
 use Rattle.scan.specs.declared.run.Run.{Run}
-use Rattle.scan.specs.Scanner.{fresh}
-use Rattle.scan.specs.Scan.{consumed, scan}
+use Rattle.scan.specs.Scan.{scan}
 use Rattle.scan.specs.Limits.{windowLimit}
 
 -- the scanner after i bytes of a part, of whose open chunk `base` bytes came before the part: its place is w before the

@@ -3,7 +3,7 @@ use Prim.Native.Nat.{ℕ, _+_, _-_, _*_, _<_}
 use native.Mathlib.Omega.{arith}
 use mathlib.Core.Path.{refl, sym, _∙_}
 use lib.ListN.{length}
-use Rattle.directory.specs.Entry.{offsetAt}
+use Rattle.directory.specs.Entry.{offsetAt, stride}
 use Rattle.search.specs.internal.Candidates.{OfKey}
 use Rattle.search.proofs.laws.Candidates.{Skipped, skipped-none, skips-one, next-here, next-none}
 use Rattle.search.proofs.next_of_key.Statement.{statement}
@@ -17,7 +17,7 @@ abbrev μ-loop : tie.MeasureT-loop
 
 -- an entry stands in the directory, and its first byte in the pool
 stands : (c : tie.At-loop Inv-loop μ-loop) (i : ℕ) → let a = c .before .before .before .args in
-    i < a .count → (i * 2 + 1 < length (a .directory .now)) × (offsetAt (a .directory .now) i < length (a .pool .now))
+    i < a .count → (i * stride + 1 < length (a .directory .now)) × (offsetAt (a .directory .now) i < length (a .pool .now))
 stands c i h =
     let entries = c .before .before .before .pre .1 in
     (omega (arith, entries .entered), omega (arith, entries .some i h, entries .inside i h))

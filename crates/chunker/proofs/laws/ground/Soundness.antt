@@ -14,7 +14,7 @@ use Rattle.scan.specs.declared.Fed.{Fed}
 use Rattle.scan.specs.Scanner.{fresh}
 use Rattle.chunker.specs.Scanner.{windowAllowed, untouched, consistent, sound, scannerGround, windowGround}
 use Rattle.scan.specs.Move.{Move, Rise, Hold, Cut, move, next}
-use Rattle.chunker.specs.Answers.{opened, fed, finished}
+use Rattle.chunker.specs.Answers.{opened, fed}
 use Rattle.scan.specs.Scan.{stopAtCut, scan}
 use Rattle.chunker.specs.Bytes.{Bytes}
 use Rattle.chunker.specs.Chunks.{after}

@@ -4,7 +4,7 @@ use native.Mathlib.Omega.{arith}
 use native.Mathlib.Nat.{sub-zero}
 use mathlib.Core.Path.{_≡_, sym, _∙_}
 use borrow.Author.Tests.{not-true, not-false}
-use Rattle.directory.specs.Entry.{lengthAt}
+use Rattle.directory.specs.Entry.{lengthAt, stride}
 use Rattle.store.proofs.laws.grounds.LaidOut.{Tested, none-left, not-laid, tested-more}
 use Rattle.store.proofs.grounds.laid_out.Statement.{statement}
 use Rattle.store.proofs.grounds.laid_out.Tie as tie
@@ -17,7 +17,7 @@ abbrev μ-loop : tie.MeasureT-loop
 
 -- a length is a number of 32 bits
 short : (c : tie.At-loop Inv-loop μ-loop) (i : ℕ) → lengthAt (c .before .before .args .directory .now) i ≤ 4294967295
-short c i = omega (arith, c .before .shared-slice-known .given (i * 2 + 1))
+short c i = omega (arith, c .before .shared-slice-known .given (i * stride + 1))
 
 mul-longest : tie.Need-mul-longest Inv-loop μ-loop
 mul-longest c = omega arith

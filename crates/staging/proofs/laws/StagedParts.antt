@@ -7,7 +7,7 @@ use mathlib.Core.List.{List, _++_}
 use lib.ListN.{length, take, drop, length-take, length-drop, take-append-drop}
 use lib.Seq.{take-all, drop-drop}
 use Rattle.copying.specs.Written.{written}
-use Rattle.rebuild.proofs.laws.Parts.{Left, all-left, part-written}
+use Rattle.staging.proofs.laws.Parts.{Left, all-left, part-written}
 
 -- a chunk is written up to place `from`
 pub record Staged (before : List ℕ) (start : ℕ) (chunk now : List ℕ) (from : ℕ) : Type 0 where

@@ -12,16 +12,15 @@ use Rattle.chunker.specs.Scanner.{windowAllowed}
 use Rattle.chunker.specs.KeptMaximum.{KeptMaximum}
 use Rattle.store.specs.Opening as store
 use Rattle.admission.proofs.laws.Admissions.{keeps}
 use Rattle.promises.specs.History as history
 use Rattle.promises.specs.History.{Event, admission, reading, State, start, eventAt, AcceptedAt, BytesIn, AllBytes}
 use Rattle.promises.proofs.laws.Events.{Fitting, grows, start-fits, bytes-in}
 use Rattle.promises.proofs.theorems.FirstAppearances.{first-appearances}
 use Rattle.promises.proofs.theorems.GivesBack.{gives-back}
 use Rattle.promises.proofs.theorems.Promise.{promise}
 use Rattle.hirunvel.specs.Storing.{headNumbers, storeOpened, storeAdmitted}
 use Rattle.hirunvel.specs.Rebuilding.{jobRebuilt}
-use Rattle.hirunvel.specs.Calls.{Memory, opened, call, leaves, chunksOf, before, chunksBefore, callAt}
-use Rattle.hirunvel.specs.Calls.{AcceptedCall, recipeOf, Counts, GivesBack, rebuild, Promised}
+use Rattle.promises.specs.Calls.{Memory, opened, call, leaves, chunksOf, before, chunksBefore, callAt, AcceptedCall, recipeOf, Counts, GivesBack, rebuild, PromisedCalls}
 
 -- a store's state as a C program keeps it
 abbrev pub memoryOf : State → Memory
@@ -102,7 +101,7 @@ module _ (w : ℕ) (allowed : storeOpened w .refusal ≡ 0) (pool directory : Li
   counts i job recipe a =
       let first = first-appearances w pool directory calls b i job recipe (accepted-at i job recipe a) in
       let here = calls-history i in
-      record { new = rw (here, chunks-before i) (first .new); all = rw here (first .all) }
+      record { first = rw (here, chunks-before i) (first .first); all = rw here (first .all) }
 
   -- demand 2: after any later call, the recipe that an accepted call left gives the job back
   pub rebuilds : (i : ℕ) (job recipe : List ℕ) → AcceptedCall m calls i job recipe → (j : ℕ) → i < j
@@ -119,7 +118,7 @@ module _ (w : ℕ) (allowed : storeOpened w .refusal ≡ 0) (pool directory : Li
       → AcceptedCall m calls i (beginning ++ (replaced ++ ending)) oldRecipe
       → AcceptedCall m calls j (beginning ++ (changed ++ ending)) newRecipe
       → (k : ℕ) → KeptMaximum w ending k
-      → Promised w m calls i j beginning replaced changed ending oldRecipe newRecipe k
+      → PromisedCalls w m calls i j beginning replaced changed ending oldRecipe newRecipe k
   unfolding storeAdmitted
   promised i j l beginning replaced changed ending oldRecipe newRecipe old new k kept =
       let p = promise w pool directory calls b i j l beginning replaced changed ending oldRecipe newRecipe

@@ -1,18 +1,17 @@
 -- A C program's calls on one store, one after another: each gets the head, the pool and the directory that the one before
 -- it left.
-use Prim.Native.Nat.{ℕ, zero, suc, _+_, _*_, _≤_}
+use Prim.Native.Nat.{ℕ, zero, suc, _+_}
 use mathlib.Core.Path.{_≡_}
 use mathlib.Core.Bool.{cond}
 use mathlib.Core.List.{List, [], _∷_, _++_}
 use lib.Dec.{eqb}
 use lib.ListN.{length, take, drop, getD}
-use Rattle.chunker.specs.Chunks.{chunks, startingAfter}
-use Rattle.chunker.specs.KeptMaximum.{LinedUp}
+use Rattle.chunker.specs.Chunks.{chunks}
 use Rattle.promises.specs.History.{Event, admission, reading, eventAt}
-use Rattle.promises.specs.FirstAppearances.{firstAppearances}
-use Rattle.promises.specs.Promise.{numbersAfter}
+use Rattle.promises.specs.FirstAppearances.{FirstAppearances}
+use Rattle.promises.specs.Promise.{Promised}
 use Rattle.hirunvel.specs.Storing.{StoreAdmission, storeOpened, storeAdmitted}
 use Rattle.hirunvel.specs.Rebuilding.{JobRebuilding, jobRebuilt}
 
 -- what a C program keeps of a store
 pub record Memory : Type 0 where
@@ -69,9 +68,10 @@ abbrev pub chargeOf : StoreAdmission → ℕ
 chargeOf c = getD (c .counts) 1 0
 
 -- demand 2: "New bytes count exactly the first appearances; new plus repeated bytes are the accepted job's length"
-pub record Counts (w : ℕ) (m : Memory) (calls : List Event) (i : ℕ) (job recipe : List ℕ) : Type 0 where
-  pub new : chargeOf (callAt m calls i job recipe) ≡ firstAppearances (chunksBefore m calls w i) (chunks w job)
-  pub all : chargeOf (callAt m calls i job recipe) + getD (callAt m calls i job recipe .counts) 2 0 ≡ length job
+abbrev pub Counts : ℕ → Memory → List Event → ℕ → List ℕ → List ℕ → Type 0
+Counts w m calls i job recipe =
+    let c = callAt m calls i job recipe in
+    FirstAppearances w (chunksBefore m calls w i) job (chargeOf c) (getD (c .counts) 2 0)
 
 -- demand 2: "the recipe of each accepted job, given a long enough output, gives back that job's bytes"
 pub record GivesBack (job output : List ℕ) (r : JobRebuilding) : Type 0 where
@@ -83,17 +83,9 @@ pub record GivesBack (job output : List ℕ) (r : JobRebuilding) : Type 0 where
 abbrev pub rebuild : Memory → List ℕ → List ℕ → JobRebuilding
 rebuild m recipe output = jobRebuilt (m .head) (m .pool) (m .directory) recipe output
 
--- demand 3, of the accepted calls i and j
-pub record Promised (w : ℕ) (m : Memory) (calls : List Event) (i j : ℕ)
-    (beginning replaced changed ending oldRecipe newRecipe : List ℕ) (k : ℕ) : Type 0 where
-  pub ceiling : chargeOf (callAt m calls j (beginning ++ (changed ++ ending)) newRecipe) ≤ length changed + k + 257 * w
-  pub linedUp : LinedUp w (beginning ++ replaced) (beginning ++ changed) ending k
-  pub sameNumbers :
-      numbersAfter (length (beginning ++ replaced) + (k + w)) (chunks w (beginning ++ (replaced ++ ending)))
-      (recipeOf (callAt m calls i (beginning ++ (replaced ++ ending)) oldRecipe))
-      ≡ numbersAfter (length (beginning ++ changed) + (k + w)) (chunks w (beginning ++ (changed ++ ending)))
-      (recipeOf (callAt m calls j (beginning ++ (changed ++ ending)) newRecipe))
-  pub equallyMany :
-      length (numbersAfter (length (beginning ++ replaced) + (k + w)) (chunks w (beginning ++ (replaced ++ ending)))
-      (recipeOf (callAt m calls i (beginning ++ (replaced ++ ending)) oldRecipe)))
-      ≡ length (startingAfter (length (beginning ++ replaced) + (k + w)) (chunks w (beginning ++ (replaced ++ ending))))
+-- demand 3, of the accepted calls i and j, where memory was lent for the recipes
+abbrev pub PromisedCalls : ℕ → Memory → List Event → ℕ → ℕ → List ℕ → List ℕ → List ℕ → List ℕ → List ℕ → List ℕ → ℕ → Type 0
+PromisedCalls w m calls i j beginning replaced changed ending oldLent newLent k =
+    let old = callAt m calls i (beginning ++ (replaced ++ ending)) oldLent in
+    let new = callAt m calls j (beginning ++ (changed ++ ending)) newLent in
+    Promised w beginning replaced changed ending k (chargeOf new) (recipeOf old) (recipeOf new)

@@ -1,8 +1,8 @@
--- `rebuild::staging::copy_128` meets its contract.
+-- `staging::copy_128` meets its contract.
 use native.Mathlib.Omega.{arith}
-use Rattle.rebuild.proofs.laws.Covering.{stretch-twice}
-use Rattle.rebuild.proofs.staging.copy_128.Statement.{statement}
-use Rattle.rebuild.proofs.staging.copy_128.Tie as tie
+use Rattle.staging.proofs.laws.Covering.{stretch-twice}
+use Rattle.staging.proofs.copy_128.Statement.{statement}
+use Rattle.staging.proofs.copy_128.Tie as tie
 
 copy-64-requires : tie.Need-copy-64-requires
 copy-64-requires c κs = omega (arith, c .before .before .before .pre)

@@ -1,10 +1,10 @@
--- `rebuild::staging::copy_chunk` meets its contract.
+-- `staging::copy_chunk` meets its contract.
 use Prim.Native.Nat.{_+_, _-_}
 use native.Mathlib.Omega.{arith}
 use mathlib.Core.Path.{_≡_}
-use Rattle.rebuild.proofs.laws.Covering.{stretch-length, stretch-covers}
-use Rattle.rebuild.proofs.staging.copy_chunk.Statement.{statement}
-use Rattle.rebuild.proofs.staging.copy_chunk.Tie as tie
+use Rattle.staging.proofs.laws.Covering.{stretch-length, stretch-covers}
+use Rattle.staging.proofs.copy_chunk.Statement.{statement}
+use Rattle.staging.proofs.copy_chunk.Tie as tie
 
 -- the chunk's bytes
 exact : (start : tie.Start) → start .args .offset .0 + start .args .size - start .args .offset .0 ≡ start .args .size

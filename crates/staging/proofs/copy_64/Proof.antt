@@ -1,10 +1,10 @@
--- `rebuild::staging::copy_64` meets its contract.
+-- `staging::copy_64` meets its contract.
 use Prim.Native.Nat.{_+_, _-_}
 use native.Mathlib.Omega.{arith}
 use mathlib.Core.Path.{_≡_}
-use Rattle.rebuild.proofs.laws.Covering.{stretch-length}
-use Rattle.rebuild.proofs.staging.copy_64.Statement.{statement}
-use Rattle.rebuild.proofs.staging.copy_64.Tie as tie
+use Rattle.staging.proofs.laws.Covering.{stretch-length}
+use Rattle.staging.proofs.copy_64.Statement.{statement}
+use Rattle.staging.proofs.copy_64.Tie as tie
 
 -- 64 bytes
 exact : (start : tie.Start) → start .args .from + 64 - start .args .from ≡ 64

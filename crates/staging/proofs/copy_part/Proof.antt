@@ -1,10 +1,10 @@
--- `rebuild::staging::copy_part` meets its contract.
+-- `staging::copy_part` meets its contract.
 use native.Mathlib.Omega.{arith}
 use mathlib.Core.Path.{_≡_, refl, ap}
 use lib.ListN.{length, take}
 use lib.Seq.{take-at}
-use Rattle.rebuild.proofs.staging.copy_part.Statement.{statement}
-use Rattle.rebuild.proofs.staging.copy_part.Tie as tie
+use Rattle.staging.proofs.copy_part.Statement.{statement}
+use Rattle.staging.proofs.copy_part.Tie as tie
 
 copy-bytes-requires : tie.Need-copy-bytes-requires
 copy-bytes-requires c κs = omega (arith, c .before .before .before .before .pre .0)

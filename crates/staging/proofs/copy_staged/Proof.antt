@@ -1,11 +1,11 @@
--- `rebuild::staging::copy_staged` meets its contract: each turn passes 256 bytes of the chunk through the buffer.
+-- `staging::copy_staged` meets its contract: each turn passes 256 bytes of the chunk through the buffer.
 use Prim.Native.Nat.{_-_}
 use native.Mathlib.Omega.{arith}
 use mathlib.Core.Path.{_≡_, refl}
 use lib.ListN.{length}
-use Rattle.rebuild.proofs.laws.StagedParts.{Staged, none-staged, room, part-length, rest-length, one-staged, all-staged}
-use Rattle.rebuild.proofs.staging.copy_staged.Statement.{statement}
-use Rattle.rebuild.proofs.staging.copy_staged.Tie as tie
+use Rattle.staging.proofs.laws.StagedParts.{Staged, none-staged, room, part-length, rest-length, one-staged, all-staged}
+use Rattle.staging.proofs.copy_staged.Statement.{statement}
+use Rattle.staging.proofs.copy_staged.Tie as tie
 
 abbrev Inv-loop : tie.InvT-loop
 Inv-loop output₀ at chunk staging₀ from₀ output staging from = Staged output₀ at chunk output from × (length staging ≡ 256)

@@ -1,10 +1,10 @@
-// The staging buffer that each chunk passes through.
+// The staging buffer that each chunk passes through on its way to the output: a layer below rebuilding.
 ghost use mathlib.Core.Path.{_≡_};
 ghost use Prim.Native.Nat.{_+_, _≤_};
 ghost use lib.ListN.{length, take, drop};
 ghost use Rattle.copying.specs.Written.{written};
-ghost use Rattle.rebuild.specs.internal.Covered.{Covered};
-use store::PoolOffset;
+ghost use Rattle.staging.specs.internal.Covered.{Covered};
+use directory::PoolOffset;
 
 // Writes bytes to a place of the output, through a buffer that has room for them.
 fn copy_part(staging: &mut [u8], output: &mut [u8], at: usize, part: &[u8])

@@ -7,7 +7,7 @@ use lib.ListN.{length, take, drop, length-take, length-drop}
 use lib.Seq.{take-take, take-add, drop-drop}
 use Rattle.copying.specs.Written.{written}
 use Rattle.copying.proofs.laws.Copying.{written-twice}
-use Rattle.rebuild.specs.internal.Covered.{Covered}
+use Rattle.staging.specs.internal.Covered.{Covered}
 
 module _ (pool : List ℕ) (from : ℕ) where
   -- a stretch of the pool has its length
