@@ -12,7 +12,6 @@ use crate::Admitted;
 use refusal::Refusal;
 use store::ChunkNumber;
 use store::Head;
-use store::JobPosition;
 use store::PoolOffset;
 
 // The next chunk number and pool offset, and what is counted so far.
@@ -142,7 +141,7 @@ fn admit_chunk(
         return outcome(Refusal::DirectoryFull, progress);
     }
     let at = filled.0 as usize;
-    if pool.len() < at + chunk.len() {
+    if pool.len() - at < chunk.len() {
         return outcome(Refusal::PoolFull, progress);
     }
     copying::copy(pool, at, chunk);
@@ -174,18 +173,17 @@ pub fn admit_job(
         new_bytes: 0,
         repeated_bytes: 0,
     };
-    let mut at = JobPosition(0);
-    while (at.0 as usize) < job.len() {
-        let from = at.0 as usize;
-        let end = from + chunker::next_chunk(head.window, &job[from..]);
-        let step = admit_chunk(progress, pool, directory, recipe, &job[from..end]);
+    let mut at = 0;
+    while at < job.len() {
+        let end = at + block_scan::first_chunk(head.window, &job[at..]);
+        let step = admit_chunk(progress, pool, directory, recipe, &job[at..end]);
         let refusal = step.refusal;
         if !refusal::accepted(refusal) {
             return refused(refusal, head);
         }
         let next = step.progress;
         progress = next;
-        at = JobPosition(end as u32);
+        at = end;
     }
     counted(head, job.len(), progress)
 }

@@ -1,6 +1,5 @@
 -- `compare::main` meets its contract. Each turn compares the jobs of one window.
 use Prim.Native.Nat.{_≤_, _-_}
-use Prim.Native.Nat.{_≤_, _-_}
 use borrow.Author.Needs.{needs}
 use Rattle.compare.proofs.main.Statement.{statement}
 use Rattle.compare.proofs.main.Tie as tie

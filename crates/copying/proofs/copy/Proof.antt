@@ -1,89 +1,57 @@
--- `copying::copy` meets its contract: each turn copies 16 bytes.
-use Prim.Native.Nat.{_-_}
-use native.Mathlib.Omega.{arith}
-use lib.ListN.{length}
-use Rattle.copying.proofs.laws.Copying.{Copied, copied-none, copied-over, copied-all}
+-- `copying::copy` meets its contract.
+use borrow.Author.Needs.{needs}
 use Rattle.copying.proofs.copy.Statement.{statement}
 use Rattle.copying.proofs.copy.Tie as tie
 
-abbrev Inv-loop : tie.InvT-loop
-Inv-loop memory₀ at bytes done₀ memory done = Copied memory₀ at bytes memory done
+copy-long-requires : tie.Need-copy-long-requires
+copy-long-requires c κs = search needs
 
-abbrev μ-loop : tie.MeasureT-loop
-μ-loop memory₀ at bytes done₀ memory done = length bytes - done
+copy-short-requires : tie.Need-copy-short-requires
+copy-short-requires c κs = search needs
 
-copy-bytes-requires : tie.Need-copy-bytes-requires Inv-loop μ-loop
-copy-bytes-requires c κs = c .before .before .before .before .pre
+copy-short-requires-2 : tie.Need-copy-short-requires-2
+copy-short-requires-2 c κs = search needs
 
-same-length : tie.Need-same-length Inv-loop μ-loop
-same-length c = omega arith
+copy-bytes-requires : tie.Need-copy-bytes-requires
+copy-bytes-requires c κs = search needs
 
-returns : tie.Need-returns Inv-loop μ-loop
-returns c = c .before .before .copy-bytes .ensures
+same-length : tie.Need-same-length
+same-length c = search needs
 
-loop-holds : tie.Need-loop-holds Inv-loop μ-loop
-loop-holds c = copied-none (c .before .before .before .pre)
+returns : tie.Need-returns
+returns c = search needs
 
-add-loop : tie.Need-add-loop Inv-loop μ-loop
-add-loop c = omega (arith, c .loop .inv .within)
+same-length-2 : tie.Need-same-length-2
+same-length-2 c = search needs
 
-add-copy-16 : tie.Need-add-copy-16 Inv-loop μ-loop
-add-copy-16 c = omega arith
+returns-2 : tie.Need-returns-2
+returns-2 c = search needs
 
-copy-16-requires : tie.Need-copy-16-requires Inv-loop μ-loop
-copy-16-requires c κs = let inv = c .before .before .loop .inv in omega (arith, inv .fits, inv .kept)
+same-length-3 : tie.Need-same-length-3
+same-length-3 c = search needs
 
-add-done : tie.Need-add-done Inv-loop μ-loop
-add-done c = omega arith
+returns-3 : tie.Need-returns-3
+returns-3 c = search needs
 
-loop-less : tie.Need-loop-less Inv-loop μ-loop
-loop-less c = omega arith
+same-length-4 : tie.Need-same-length-4
+same-length-4 c = search needs
 
-loop-again : tie.Need-loop-again Inv-loop μ-loop
-loop-again c =
-    let copied = c .before .before in
-    let turn = copied .before .before .before in
-    copied-over (turn .loop .inv) (turn .loop .done) 16 (omega arith) (omega arith) (omega arith) _ (copied .copy-16 .ensures)
-
-sub-last : tie.Need-sub-last Inv-loop μ-loop
-sub-last c = omega arith
-
-add-copy-16-2 : tie.Need-add-copy-16-2 Inv-loop μ-loop
-add-copy-16-2 c = omega arith
-
-copy-16-requires-2 : tie.Need-copy-16-requires-2 Inv-loop μ-loop
-copy-16-requires-2 c κs = let inv = c .before .before .loop .inv in omega (arith, inv .fits, inv .kept)
-
-same-length-2 : tie.Need-same-length-2 Inv-loop μ-loop
-same-length-2 c = omega (arith, c .before .before .before .before .before .loop .inv .kept)
-
-returns-2 : tie.Need-returns-2 Inv-loop μ-loop
-returns-2 c =
-    let copied = c .before .before in
-    let end = copied .before .before .before in
-    let bytes = end .before .before .before .before .args .bytes .now in
-    copied-all
-    (copied-over (end .loop .inv) (length bytes - 16) 16 (omega arith) (omega (arith, end .loop .inv .within)) (omega arith) _ (copied .copy-162 .ensures))
-    (omega arith)
+returns-4 : tie.Need-returns-4
+returns-4 c = search needs
 
 pub copy-spec : {M : Type 1} → statement M
 copy-spec =
     tie.close
     (tie.spec
-    Inv-loop
-    μ-loop
+    copy-long-requires
+    copy-short-requires
+    copy-short-requires-2
     copy-bytes-requires
     same-length
     returns
-    loop-holds
-    add-loop
-    add-copy-16
-    copy-16-requires
-    add-done
-    loop-less
-    loop-again
-    sub-last
-    add-copy-16-2
-    copy-16-requires-2
     same-length-2
-    returns-2)
+    returns-2
+    same-length-3
+    returns-3
+    same-length-4
+    returns-4)

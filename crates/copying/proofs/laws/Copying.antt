@@ -3,9 +3,9 @@ use Prim.Native.Nat.{ℕ, _+_, _-_, _≤_, _<_}
 use native.Mathlib.Omega.{arith}
 use native.Mathlib.Numerals.{add-one}
 use mathlib.Core.Path.{_≡_, refl, sym, ap, _∙_}
-use mathlib.Core.List.{List, _++_, append-assoc, append-nil}
-use lib.ListN.{length, take, drop, getD, set, length-append, length-take, length-drop, length-set, drop-of-length-le}
-use lib.Seq.{paste, paste-zero, paste-suc, length-paste, take-length, take-add, take-take, take-append-le, take-append-add, drop-at, drop-drop, length-take-le}
+use mathlib.Core.List.{List, _++_, append-assoc}
+use lib.ListN.{length, take, drop, getD, set, length-append, length-take, length-drop, length-set}
+use lib.Seq.{paste, paste-zero, paste-suc, length-paste, take-all, take-length, take-add, take-take, take-append-le, take-append-add, drop-at, drop-drop, length-take-le}
 use Rattle.copying.specs.Written.{written}
 
 -- the pool after n bytes of a chunk, of which the first goes to `from`
@@ -21,10 +21,10 @@ pub copied-none : {before : List ℕ} {from : ℕ} {chunk : List ℕ} → from +
 copied-none {before} {from} {chunk} h =
     record { fits = h; within = omega arith; kept = refl; gives = paste-zero before from chunk }
 
--- bytes that are as many as the memory has
-pub written-whole : (l bytes : List ℕ) → length bytes ≡ length l → written l 0 bytes ≡ bytes
-written-whole l bytes h =
-    let past : length l ≤ 0 + length bytes = omega arith in rw (drop-of-length-le l past) (append-nil bytes)
+-- bytes written to the start of the memory stand there
+pub written-first : (l bytes : List ℕ) (n : ℕ) → length bytes ≡ n → take n (written l 0 bytes) ≡ bytes
+written-first l bytes n size =
+    take-append-le n bytes (drop (0 + length bytes) l) (omega arith) ∙ take-all n bytes (omega arith)
 
 -- a write that begins with n wanted bytes and goes on into the stretch of what is written next
 pub written-over : (l : List ℕ) (at : ℕ) (a b : List ℕ) (n : ℕ) → at + length a ≤ length l → n ≤ length a

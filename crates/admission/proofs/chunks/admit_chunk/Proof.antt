@@ -1,5 +1,6 @@
 -- `admission::chunks::admit_chunk` meets its contract.
 use Prim.Native.Nat.{ℕ, _≤_, _<_}
+use native.Mathlib.Omega.{arith}
 use mathlib.Core.Path.{sym}
 use mathlib.Core.List.{List}
 use borrow.Author.Needs.{needs}
@@ -123,8 +124,8 @@ returns-3 c =
 cast-at : tie.Need-cast-at
 cast-at c = search needs
 
-add-if4 : tie.Need-add-if4
-add-if4 c = search needs
+sub-if4 : tie.Need-sub-if4
+sub-if4 c = search needs
 
 outcome-requires-4 : tie.Need-outcome-requires-4
 outcome-requires-4 c κs = search needs
@@ -143,7 +144,7 @@ returns-4 c =
     let room = room-of (search-of passed) in
     let s = start-of room in
     rw (c .outcome4 .ensures)
-    (pool-full (snapshot-of s) (chunk-of s) (room .if1 .left) (new passed) (free-entry entry) (full .if4 .taken))
+    (pool-full (snapshot-of s) (chunk-of s) (room .if1 .left) (new passed) (free-entry entry) (omega (arith, full .if4 .taken)))
 
 copy-requires : tie.Need-copy-requires
 copy-requires c κs = search needs
@@ -183,7 +184,7 @@ returns-5 c =
     rw
     (c .outcome5 .ensures, c .before .with-new .ensures, copy .copy .ensures, enter .enter .ensures)
     (added (snapshot-of s) (chunk-of s) (room .if1 .left) (new passed) (free-entry (free .before .before))
-    (free .if4 .left))
+    (omega (arith, free .if4 .left, s .pre .filled)))
 
 pub admit-chunk-spec : {M : Type 1} → statement M
 admit-chunk-spec =
@@ -209,7 +210,7 @@ admit-chunk-spec =
     same-length-5
     returns-3
     cast-at
-    add-if4
+    sub-if4
     outcome-requires-4
     same-length-6
     same-length-7

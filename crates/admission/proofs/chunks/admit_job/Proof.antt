@@ -5,9 +5,9 @@ use mathlib.Core.Path.{_≡_, refl, sym, ap, _∙_}
 use mathlib.Core.List.{List}
 use borrow.Author.Needs.{needs}
 use borrow.Author.Tests.{not-true, not-false}
-use lib.ListN.{length, drop, take, length-drop}
+use lib.ListN.{length, drop, take, length-drop, length-take}
 use Rattle.refusal.specs.Number.{accepted}
-use Rattle.chunker.proofs.laws.ground.Soundness.{all-bytes}
+use Rattle.chunker.proofs.laws.ground.Soundness.{window-bounds, all-bytes, fed-accepted, fresh-ground}
 use Rattle.chunker.proofs.laws.NextChunk.{NextChunk, next-of-rest}
 use Rattle.admission.specs.Snapshot.{Snapshot, snapshot, chunkOutcome}
 use Rattle.admission.proofs.laws.Steps.{ends}
@@ -18,20 +18,20 @@ use Rattle.admission.proofs.chunks.admit_job.Tie as tie
 
 abbrev Inv-loop : tie.InvT-loop
 Inv-loop head pool₀ directory₀ recipe₀ job progress₀ at₀ pool directory recipe progress at =
-    Admitting head (snapshot progress pool directory recipe) job (at .0) (run head pool₀ directory₀ recipe₀ job)
+    Admitting head (snapshot progress pool directory recipe) job at (run head pool₀ directory₀ recipe₀ job)
     × (length pool ≡ length pool₀) × (length directory ≡ length directory₀) × (length recipe ≡ length recipe₀)
 
 abbrev μ-loop : tie.MeasureT-loop
-μ-loop head pool₀ directory₀ recipe₀ job progress₀ at₀ pool directory recipe progress at = length job - at .0
+μ-loop head pool₀ directory₀ recipe₀ job progress₀ at₀ pool directory recipe progress at = length job - at
 
 -- the places of the code that the needs below go back to: the start, the head of a turn, the call that finds its chunk and the one that admits it
 abbrev start-of : tie.At-loop Inv-loop μ-loop → tie.Start Inv-loop μ-loop
 start-of t = t .before .before .before .before .before .before .before
 
-abbrev turn-of : tie.After-next-chunk Inv-loop μ-loop → tie.At-loop Inv-loop μ-loop
-turn-of c = c .before .before .before .before .before
+abbrev turn-of : tie.After-first-chunk Inv-loop μ-loop → tie.At-loop Inv-loop μ-loop
+turn-of c = c .before .before .before
 
-abbrev call-of : tie.After-admit-chunk Inv-loop μ-loop → tie.After-next-chunk Inv-loop μ-loop
+abbrev call-of : tie.After-admit-chunk Inv-loop μ-loop → tie.After-first-chunk Inv-loop μ-loop
 call-of c = c .before .before .before .before .before
 
 abbrev chunk-of : tie.After-accepted Inv-loop μ-loop → tie.After-admit-chunk Inv-loop μ-loop
@@ -44,8 +44,8 @@ job-of t = start-of t .args .job .now
 abbrev snapshot-of : tie.At-loop Inv-loop μ-loop → Snapshot
 snapshot-of t = snapshot (t .loop .progress) (t .loop .pool) (t .loop .directory) (t .loop .recipe)
 
-abbrev chunk-at : tie.After-next-chunk Inv-loop μ-loop → List ℕ
-chunk-at c = take (c .next-chunk .result) (drop (turn-of c .loop .at .0) (job-of (turn-of c)))
+abbrev chunk-at : tie.After-first-chunk Inv-loop μ-loop → List ℕ
+chunk-at c = take (c .first-chunk .result) (drop (turn-of c .loop .at) (job-of (turn-of c)))
 
 loop-holds : tie.Need-loop-holds Inv-loop μ-loop
 loop-holds c =
@@ -59,37 +59,37 @@ loop-holds c =
       refl,
     )
 
-cast-if1 : tie.Need-cast-if1 Inv-loop μ-loop
-cast-if1 c = omega arith
+sub-first-chunk : tie.Need-sub-first-chunk Inv-loop μ-loop
+sub-first-chunk c = omega arith
 
-cast-from : tie.Need-cast-from Inv-loop μ-loop
-cast-from c = omega arith
+part-first-chunk-start : tie.Need-part-first-chunk-start Inv-loop μ-loop
+part-first-chunk-start c = omega arith
 
-sub-next-chunk : tie.Need-sub-next-chunk Inv-loop μ-loop
-sub-next-chunk c = omega arith
+part-first-chunk-end : tie.Need-part-first-chunk-end Inv-loop μ-loop
+part-first-chunk-end c = omega arith
 
-part-next-chunk-start : tie.Need-part-next-chunk-start Inv-loop μ-loop
-part-next-chunk-start c = omega arith
-
-part-next-chunk-end : tie.Need-part-next-chunk-end Inv-loop μ-loop
-part-next-chunk-end c = omega arith
-
-next-chunk-requires : tie.Need-next-chunk-requires Inv-loop μ-loop
-next-chunk-requires c κs = search needs
+first-chunk-requires : tie.Need-first-chunk-requires Inv-loop μ-loop
+first-chunk-requires c κs =
+    let turn = c .before .before in
+    let b = window-bounds _ (turn .loop .inv .0 .allowed) in
+    let left = length-drop (turn .loop .at) (job-of turn) in
+    (b .0, (b .1, simp (length-take, length-drop) (omega (arith, c .before .loop-test .taken))))
 
 -- the call finds the next chunk
-next-of : (c : tie.After-next-chunk Inv-loop μ-loop)
-    → NextChunk (start-of (turn-of c) .args .head .window) (drop (turn-of c .loop .at .0) (job-of (turn-of c)))
-    (c .next-chunk .result)
+next-of : (c : tie.After-first-chunk Inv-loop μ-loop)
+    → NextChunk (start-of (turn-of c) .args .head .window) (drop (turn-of c .loop .at) (job-of (turn-of c)))
+    (c .first-chunk .result)
 next-of c =
-    next-of-rest _ (turn-of c .loop .inv .0 .allowed) _ _ (c .before .before .before .if1 .taken) _ (c .next-chunk .ensures)
+    let allowed = turn-of c .loop .inv .0 .allowed in
+    next-of-rest _ allowed _ _ (c .before .before .loop-test .taken) _
+    (c .first-chunk .ensures ∙ sym (ap (λ f. f .consumed) (fed-accepted _ _ (fresh-ground _ allowed))))
 
 -- which ends no later than the job
-within : (c : tie.After-next-chunk Inv-loop μ-loop)
-    → turn-of c .loop .at .0 + c .next-chunk .result ≤ length (job-of (turn-of c))
+within : (c : tie.After-first-chunk Inv-loop μ-loop)
+    → turn-of c .loop .at + c .first-chunk .result ≤ length (job-of (turn-of c))
 within c =
-    let left = length-drop (turn-of c .loop .at .0) (job-of (turn-of c)) in
-    omega (arith, next-of c .within, c .before .before .before .if1 .taken)
+    let left = length-drop (turn-of c .loop .at) (job-of (turn-of c)) in
+    omega (arith, next-of c .within, c .before .before .loop-test .taken)
 
 add-end : tie.Need-add-end Inv-loop μ-loop
 add-end c = omega (arith, within c)
@@ -104,8 +104,8 @@ part-admit-chunk-end : tie.Need-part-admit-chunk-end Inv-loop μ-loop
 part-admit-chunk-end c = omega (arith, within (c .before .before .before))
 
 -- the part of the job that the code hands on is the next chunk
-handed-on : (c : tie.After-next-chunk Inv-loop μ-loop)
-    → turn-of c .loop .at .0 + c .next-chunk .result - turn-of c .loop .at .0 ≡ c .next-chunk .result
+handed-on : (c : tie.After-first-chunk Inv-loop μ-loop)
+    → turn-of c .loop .at + c .first-chunk .result - turn-of c .loop .at ≡ c .first-chunk .result
 handed-on c = omega arith
 
 admit-chunk-requires : tie.Need-admit-chunk-requires Inv-loop μ-loop
@@ -151,15 +151,10 @@ returns : tie.Need-returns Inv-loop μ-loop
 returns c =
     let call = chunk-of (c .before .before) in
     let s = stepped call in
-    let tested = sym (c .before .before .accepted .ensures) ∙ not-true _ (c .before .if2 .taken) in
+    let tested = sym (c .before .before .accepted .ensures) ∙ not-true _ (c .before .if1 .taken) in
     let refused = sym (ap (λ o. accepted (o .refusal)) s) ∙ tested in
     let stops = s ∙ admitting-stops (turn-of (call-of call) .loop .inv .0) _ (next-of (call-of call)) refused in
     rw (c .refused .ensures, ← stops, tested)
-
-cast-t31 : tie.Need-cast-t31 Inv-loop μ-loop
-cast-t31 c =
-    let call = call-of (chunk-of (c .before .before)) in
-    omega (arith, within call, turn-of call .loop .inv .0 .short)
 
 loop-less : tie.Need-loop-less Inv-loop μ-loop
 loop-less c =
@@ -170,7 +165,7 @@ loop-again : tie.Need-loop-again Inv-loop μ-loop
 loop-again c =
     let call = chunk-of (c .before .before) in
     let s = stepped call in
-    let tested = sym (c .before .before .accepted .ensures) ∙ not-false _ (c .before .if2 .left) in
+    let tested = sym (c .before .before .accepted .ensures) ∙ not-false _ (c .before .if1 .left) in
     let admitted = sym (ap (λ o. accepted (o .refusal)) s) ∙ tested in
     let kept = call .admit-chunk .kept .1 in
     let lengths = kept-of (c .before .before) in (
@@ -183,21 +178,21 @@ loop-again c =
 
 counted-requires : tie.Need-counted-requires Inv-loop μ-loop
 counted-requires c κs =
-    let a = c .before .before .loop .inv .0 in
+    let a = c .before .loop .inv .0 in
     (a .short, (omega (arith, a .counts, a .within, a .short), omega (arith, a .used, a .recipe)))
 
 same-length-4 : tie.Need-same-length-4 Inv-loop μ-loop
-same-length-4 c = c .before .before .before .loop .inv .1
+same-length-4 c = c .before .before .loop .inv .1
 
 same-length-5 : tie.Need-same-length-5 Inv-loop μ-loop
-same-length-5 c = c .before .before .before .loop .inv .2
+same-length-5 c = c .before .before .loop .inv .2
 
 same-length-6 : tie.Need-same-length-6 Inv-loop μ-loop
-same-length-6 c = c .before .before .before .loop .inv .3
+same-length-6 c = c .before .before .loop .inv .3
 
 returns-2 : tie.Need-returns-2 Inv-loop μ-loop
 returns-2 c =
-    let ended = admitting-ends (c .before .before .before .loop .inv .0) (c .before .if1 .left) in
+    let ended = admitting-ends (c .before .before .loop .inv .0) (c .before .loop-test .left) in
     rw (c .counted .ensures, ← ended)
 
 pub admit-job-spec : {M : Type 1} → statement M
@@ -207,12 +202,10 @@ admit-job-spec =
     Inv-loop
     μ-loop
     loop-holds
-    cast-if1
-    cast-from
-    sub-next-chunk
-    part-next-chunk-start
-    part-next-chunk-end
-    next-chunk-requires
+    sub-first-chunk
+    part-first-chunk-start
+    part-first-chunk-end
+    first-chunk-requires
     add-end
     sub-admit-chunk
     part-admit-chunk-start
@@ -224,7 +217,6 @@ admit-job-spec =
     same-length-2
     same-length-3
     returns
-    cast-t31
     loop-less
     loop-again
     counted-requires

@@ -1,8 +1,6 @@
 -- `compare::generated::compared` meets its contract.
 use native.Mathlib.Omega.{arith}
 use lib.ListN.{length-append, length-drop, length-take}
-use native.Mathlib.Omega.{arith}
-use lib.ListN.{length-append, length-drop, length-take}
 use borrow.Author.Needs.{needs}
 use Rattle.compare.proofs.generated.compared.Statement.{statement}
 use Rattle.compare.proofs.generated.compared.Tie as tie
