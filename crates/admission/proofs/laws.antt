@@ -1,9 +1,5 @@
-pub mod Writing
-pub mod OneChunk
-pub mod AllChunks
+pub mod chunks
+pub mod grounds
 pub mod Outcomes
 pub mod Admissions
 pub mod Lengths
-pub mod Saving
-pub mod Steps
-pub mod Admitting

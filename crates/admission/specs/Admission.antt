@@ -15,8 +15,8 @@ use Rattle.store.specs.declared.Head.{Head}
 use Rattle.store.specs.Limits.{jobLimit}
 use Rattle.store.specs.Grounds.{memoryGround, recipeGround, headGround}
 use Rattle.admission.specs.declared.Admitted.{Admitted}
-use Rattle.admission.specs.declared.chunks.Progress.{Progress}
-use Rattle.admission.specs.Snapshot.{Snapshot, Outcome, chunksOutcome}
+use Rattle.chunk_admission.specs.declared.Progress.{Progress}
+use Rattle.chunk_admission.specs.Snapshot.{Snapshot, Outcome, chunksOutcome}
 
 -- "The job is empty or longer than 16,777,216 bytes" does not hold
 unfoldable pub jobAllowed : List ℕ → Bool

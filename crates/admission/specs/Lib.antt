@@ -1,4 +1,2 @@
--- Admission says what an admission answers and leaves; Snapshot is an admission under way, chunk by chunk.
-pub mod Snapshot
+-- What an admission answers and leaves.
 pub mod Admission
-pub mod internal

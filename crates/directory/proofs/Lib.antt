@@ -1,1 +1,2 @@
--- The functions need no laws.
+-- laws/layout/Entries has what callers cite of a layout, laws/layout/Testing serves the loop that tests it.
+pub mod laws

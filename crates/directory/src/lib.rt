@@ -5,6 +5,10 @@ ghost use Prim.Native.Nat.{_+_, _*_, _<_};
 ghost use lib.ListN.{length};
 ghost use Rattle.directory.specs.Entry.{stride, offsetAt, lengthAt, entries, entered};
 
+mod layout;
+
+pub use layout::laid_out;
+
 // The numbers of an entry.
 pub const STRIDE: usize = 2;
 

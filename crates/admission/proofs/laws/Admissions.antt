@@ -11,14 +11,15 @@ use Rattle.chunker.specs.Scanner.{windowAllowed}
 use Rattle.chunker.specs.Chunks.{chunks}
 use Rattle.chunker.proofs.laws.ground.Soundness.{window-bounds}
 use Rattle.store.specs.declared.Head.{Head}
-use Rattle.store.specs.Directory.{fits}
+use Rattle.store.specs.Grounds.{fits}
 use Rattle.store.specs.Memory.{contents}
 use Rattle.store.specs.Contents.{number, grown, gained}
 use Rattle.admission.specs.Admission.{Admission, admissionGround, begun, admitted, recipeOf}
-use Rattle.store.proofs.laws.grounds.Entries.{fits-facts}
-use Rattle.admission.proofs.laws.Writing.{same-fits, same-contents}
-use Rattle.admission.proofs.laws.AllChunks.{chunks-allowed, total-chunks, admits, chunks-keep}
-use Rattle.admission.proofs.laws.Outcomes.{run, all-passed, admitted-refused, admitted-concluded}
+use Rattle.store.proofs.laws.grounds.Fitting.{fits-facts}
+use Rattle.chunk_admission.proofs.laws.Writing.{same-fits, same-contents}
+use Rattle.admission.proofs.laws.chunks.AllChunks.{chunks-allowed, total-chunks, admits, chunks-keep}
+use Rattle.admission.proofs.laws.grounds.Passed.{all-passed}
+use Rattle.admission.proofs.laws.Outcomes.{run, admitted-refused, admitted-concluded}
 
 -- an accepted admission adds the job's chunks
 pub record Added (head : Head) (pool directory job : List ℕ) (a : Admission) : Type 0 where

@@ -9,13 +9,13 @@ use Rattle.refusal.specs.Number.{accepted}
 use Rattle.refusal.specs.declared.Refusal.{Refusal}
 use Rattle.chunker.specs.Chunks.{chunks}
 use Rattle.store.specs.declared.Head.{Head}
-use Rattle.store.specs.Directory.{fits, memoryAllowed, recipeAllowed}
+use Rattle.store.specs.Grounds.{fits, memoryAllowed, recipeAllowed}
 use Rattle.admission.specs.Admission.{Admission, admissionGround, refused, begun, concluded, admitted}
-use Rattle.admission.specs.Snapshot.{Snapshot, chunkGround, afterChunk, chunksOutcome}
-use Rattle.store.proofs.laws.grounds.Entries.{fits-facts}
-use Rattle.admission.proofs.laws.OneChunk.{Chunked, refuses, repeats, stores, chunked}
-use Rattle.admission.proofs.laws.AllChunks.{chunks-keep}
-use Rattle.admission.proofs.laws.Outcomes.{all-passed}
+use Rattle.chunk_admission.specs.Snapshot.{Snapshot, chunkGround, afterChunk, chunksOutcome}
+use Rattle.store.proofs.laws.grounds.Fitting.{fits-facts}
+use Rattle.chunk_admission.proofs.laws.OneChunk.{Chunked, refuses, repeats, stores, chunked}
+use Rattle.admission.proofs.laws.chunks.AllChunks.{chunks-keep}
+use Rattle.admission.proofs.laws.grounds.Passed.{all-passed}
 
 -- one chunk and those after it, by what becomes of the chunk
 recipe-step : (f : Snapshot) (c : List ℕ) (cs : List (List ℕ)) (ground : Refusal) (g : Snapshot) → Chunked f c ground g

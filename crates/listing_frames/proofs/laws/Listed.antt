@@ -19,7 +19,7 @@ use Rattle.store.specs.declared.Opened.{Opened}
 use Rattle.store.specs.Memory.{chunksFrom}
 use Rattle.store.specs.Contents.{number, grown}
 use Rattle.store.specs.Opening.{fresh, opened}
-use Rattle.store.proofs.laws.grounds.Entries.{fresh-fits}
+use Rattle.store.proofs.laws.grounds.Fitting.{fresh-fits}
 use Rattle.admission.specs.Admission.{Admission, admitted, recipeOf}
 use Rattle.admission.proofs.laws.Admissions.{adds}
 use Rattle.listing_frames.specs.Frames.{window, longestJob, frameBytes, chunkFrames, lastFrame, refusedFrame, outcome, admittedFrames, listing, refusalOf, written, listed}

@@ -7,11 +7,12 @@ use Rattle.refusal.specs.declared.Refusal.the-variants.{JobLength}
 use Rattle.chunker.specs.Scanner.{windowAllowed}
 use Rattle.scan.specs.Move.{move, next}
 use Rattle.chunker.specs.Chunks.{cutChunks, remaining, chunks}
-use Rattle.store.specs.Directory.{laidOut, fits, memoryAllowed, recipeAllowed}
+use Rattle.directory.specs.Layout.{laidOut}
+use Rattle.store.specs.Grounds.{fits, memoryAllowed, recipeAllowed}
 use Rattle.admission.specs.Admission.{jobAllowed, admissionGround, admitted}
 use Rattle.store.specs.Memory.{chunksFrom}
 use Rattle.store.specs.Contents.{same, number, has}
-use Rattle.admission.specs.Snapshot.{chunkGround, afterChunk, chunksOutcome}
+use Rattle.chunk_admission.specs.Snapshot.{chunkGround, afterChunk, chunksOutcome}
 use Rattle.listing_frames.specs.Frames.{hex, frame, chunkFrames, refusedFrame, listing}
 
 -- 0000000000000000000501

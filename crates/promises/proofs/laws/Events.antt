@@ -10,8 +10,8 @@ use Rattle.chunker.specs.Bytes.{Bytes}
 use Rattle.chunker.specs.Scanner.{windowAllowed}
 use Rattle.chunker.specs.Chunks.{chunks}
 use Rattle.store.specs.Contents.{number, grown, gained}
-use Rattle.store.specs.Directory.{fits}
-use Rattle.store.proofs.laws.grounds.Entries.{fresh-fits}
+use Rattle.store.specs.Grounds.{fits}
+use Rattle.store.proofs.laws.grounds.Fitting.{fresh-fits}
 use Rattle.store.specs.Memory.{chunksFrom}
 use Rattle.store.proofs.laws.contents.Growth.{Among, grown-keeps, grown-has, grown-append, numbers-grown}
 use Rattle.admission.specs.Admission.{recipeOf}

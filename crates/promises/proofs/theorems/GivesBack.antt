@@ -12,7 +12,7 @@ use Rattle.chunker.specs.Splitting.{joined}
 use Rattle.chunker.specs.Chunks.{chunks}
 use Rattle.chunker.proofs.theorems.ChunkSizes.{chunks-joined}
 use Rattle.store.specs.declared.Head.{Head}
-use Rattle.store.specs.Directory.{memoryAllowed, recipeAllowed}
+use Rattle.store.specs.Grounds.{memoryAllowed, recipeAllowed, allBelow}
 use Rattle.store.specs.Memory.{contents}
 use Rattle.store.specs.Contents.{number}
 use Rattle.admission.specs.Admission.{Admission, recipeOf}
@@ -22,7 +22,6 @@ use Rattle.store.proofs.laws.ChunkOfNumber.{number-counted, chunk-of-number}
 use Rattle.promises.proofs.laws.Events.{grows, adds-at, named-at, start-fits}
 use Rattle.admission.proofs.laws.Lengths.{as-long, within-limits, memory-allowed-same}
 use Rattle.rebuild.specs.Rebuilding.{rebuiltBytes, rebuildGround, rebuilt}
-use Rattle.store.specs.Grounds.{allBelow}
 use Rattle.promises.specs.GivesBack.{GivesBack}
 use Rattle.rebuild.proofs.laws.RebuildGround.{all-pass}
 use Rattle.store.specs.Limits.{recipeLimit}

@@ -17,9 +17,10 @@ use Rattle.chunker.specs.Method.{byteAt, FirstMaximumPoint}
 use Rattle.chunker.specs.KeptMaximum.{KeptMaximum}
 use Rattle.store.specs.Memory.{chunksFrom}
 use Rattle.store.specs.Contents.{same, number}
-use Rattle.store.specs.Directory.{laidOut, fits, memoryAllowed, recipeAllowed}
+use Rattle.directory.specs.Layout.{laidOut}
+use Rattle.store.specs.Grounds.{fits, memoryAllowed, recipeAllowed}
 use Rattle.admission.specs.Admission.{jobAllowed, admissionGround, admitted, recipeOf}
-use Rattle.admission.specs.Snapshot.{chunkGround, afterChunk, chunksOutcome}
+use Rattle.chunk_admission.specs.Snapshot.{chunkGround, afterChunk, chunksOutcome}
 use Rattle.promises.specs.History.{Event, admission, State, start, outcome, leaves, before}
 
 -- n numbers, counting up from b

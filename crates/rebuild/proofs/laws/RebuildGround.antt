@@ -15,9 +15,8 @@ use Rattle.refusal.proofs.laws.Grounds.{none-holds, passed, first-append}
 use Rattle.chunker.specs.Scanner.{windowAllowed, windowGround}
 use Rattle.store.specs.declared.Head.{Head}
 use Rattle.store.specs.Limits.{poolLimit}
-use Rattle.store.specs.Directory.{fits, memoryAllowed, recipeAllowed}
-use Rattle.store.specs.Grounds.{memoryGround, recipeGround, headGround, allBelow, numberGround, storeGround}
-use Rattle.store.proofs.laws.grounds.Entries.{Placed, fits-entry}
+use Rattle.store.specs.Grounds.{fits, memoryAllowed, recipeAllowed, memoryGround, recipeGround, headGround, allBelow, numberGround, storeGround}
+use Rattle.store.proofs.laws.grounds.Fitting.{Placed, fits-entry}
 use Rattle.store.proofs.laws.grounds.Passed.{store-passed}
 use Rattle.rebuild.specs.Rebuilding.{rebuiltBytes, outputGround, rebuildGround}
 use Rattle.rebuild.specs.internal.Located.{Located}

@@ -11,10 +11,9 @@ use Rattle.chunker.specs.Scanner.{windowGround}
 use Rattle.store.specs.declared.Head.{Head}
 use Rattle.directory.specs.declared.ChunkNumber.{ChunkNumber}
 use Rattle.directory.specs.Entry.{offsetAt, lengthAt, stride}
-use Rattle.store.specs.Directory.{fits}
-use Rattle.store.specs.Grounds.{memoryGround, headGround, allBelow, numberGround, lookGround}
+use Rattle.store.specs.Grounds.{fits, memoryGround, headGround, allBelow, numberGround, lookGround}
 use Rattle.store.specs.Looking.{stretchOf}
-use Rattle.store.proofs.laws.grounds.Entries.{Placed, fits-entry}
+use Rattle.store.proofs.laws.grounds.Fitting.{Placed, fits-entry}
 use Rattle.refusal.proofs.laws.Grounds.{none-holds, passed}
 
 -- an accepted look finds the chunk's entry in the directory and its bytes in the pool

@@ -1,3 +1,2 @@
-pub mod Entries
-pub mod LaidOut
+pub mod Fitting
 pub mod Passed

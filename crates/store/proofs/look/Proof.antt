@@ -9,7 +9,7 @@ use Rattle.refusal.specs.Number.{accepted}
 use Rattle.directory.specs.Entry.{offsetAt, lengthAt}
 use Rattle.store.specs.Grounds.{lookGround}
 use Rattle.store.specs.Looking.{shown}
-use Rattle.store.proofs.laws.grounds.Entries.{Placed}
+use Rattle.store.proofs.laws.grounds.Fitting.{Placed}
 use Rattle.store.proofs.laws.Stretches.{look-placed, stretch-found}
 use Rattle.store.proofs.look.Statement.{statement}
 use Rattle.store.proofs.look.Tie as tie

@@ -9,10 +9,10 @@ use lib.ListN.{length, drop, take, length-drop, length-take}
 use Rattle.refusal.specs.Number.{accepted}
 use Rattle.chunker.proofs.laws.ground.Soundness.{window-bounds, all-bytes, fed-accepted, fresh-ground}
 use Rattle.chunker.proofs.laws.NextChunk.{NextChunk, next-of-rest}
-use Rattle.admission.specs.Snapshot.{Snapshot, snapshot, chunkOutcome}
-use Rattle.admission.proofs.laws.Steps.{ends}
+use Rattle.chunk_admission.specs.Snapshot.{Snapshot, snapshot, chunkOutcome}
+use Rattle.chunk_admission.proofs.laws.Steps.{ends}
 use Rattle.admission.proofs.laws.Outcomes.{run}
-use Rattle.admission.proofs.laws.Admitting.{Admitting, ready, admitting-starts, admitting-on, admitting-stops, admitting-ends}
+use Rattle.admission.proofs.laws.chunks.Admitting.{Admitting, ready, admitting-starts, admitting-on, admitting-stops, admitting-ends}
 use Rattle.admission.proofs.chunks.admit_job.Statement.{statement}
 use Rattle.admission.proofs.chunks.admit_job.Tie as tie
 

@@ -2,7 +2,7 @@
 use Prim.Native.Nat.{_+_, _*_}
 use native.Mathlib.Omega.{arith}
 use mir.Facts.{toZ-ofZ}
-use Rattle.admission.proofs.laws.Saving.{same-difference, saving-fits}
+use Rattle.admission.proofs.laws.chunks.Saving.{same-difference, saving-fits}
 use borrow.Author.Needs.{needs}
 use Rattle.admission.proofs.chunks.counted.Statement.{statement}
 use Rattle.admission.proofs.chunks.counted.Tie as tie

@@ -6,8 +6,7 @@ use borrow.Author.Needs.{needs}
 use borrow.Author.Tests.{not-true, not-false, leb-true, le-leb, lt-leb}
 use Rattle.refusal.specs.Number.{accepted}
 use Rattle.refusal.specs.Grounds.{first}
-use Rattle.store.specs.Directory.{recipeAllowed}
-use Rattle.store.specs.Grounds.{numberGround, storeGround}
+use Rattle.store.specs.Grounds.{recipeAllowed, numberGround, storeGround}
 use Rattle.store.specs.Limits.{recipeLimit}
 use Rattle.rebuild.specs.Rebuilding.{outputGround, rebuildGround}
 use Rattle.rebuild.proofs.laws.RebuildGround.{no-length, after-recipe, pool-small, numbers-located}

@@ -1,7 +1,7 @@
 -- `store::grounds::fits` meets its contract.
 use borrow.Author.Needs.{needs}
 use borrow.Author.Tests.{le-leb, lt-leb}
-use Rattle.store.specs.Directory.{fits}
+use Rattle.store.specs.Grounds.{fits}
 use Rattle.store.proofs.grounds.fits.Statement.{statement}
 use Rattle.store.proofs.grounds.fits.Tie as tie
 

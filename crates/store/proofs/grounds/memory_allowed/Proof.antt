@@ -1,6 +1,6 @@
 -- `store::grounds::memory_allowed` meets its contract.
 use borrow.Author.Tests.{le-leb, lt-leb}
-use Rattle.store.specs.Directory.{memoryAllowed}
+use Rattle.store.specs.Grounds.{memoryAllowed}
 use Rattle.store.proofs.grounds.memory_allowed.Statement.{statement}
 use Rattle.store.proofs.grounds.memory_allowed.Tie as tie
 use Rattle.store.specs.Limits.{poolLimit, directoryLimit}

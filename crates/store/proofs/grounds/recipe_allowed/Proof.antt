@@ -1,6 +1,6 @@
 -- `store::grounds::recipe_allowed` meets its contract.
 use mathlib.Core.Path.{refl}
-use Rattle.store.specs.Directory.{recipeAllowed}
+use Rattle.store.specs.Grounds.{recipeAllowed}
 use Rattle.store.proofs.grounds.recipe_allowed.Statement.{statement}
 use Rattle.store.proofs.grounds.recipe_allowed.Tie as tie
 

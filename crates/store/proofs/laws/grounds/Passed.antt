@@ -10,8 +10,7 @@ use Rattle.refusal.proofs.laws.Grounds.{none-holds, passed, first-append}
 use Rattle.chunker.specs.Scanner.{windowAllowed, windowGround}
 use Rattle.directory.specs.declared.ChunkNumber.{ChunkNumber}
 use Rattle.store.specs.declared.Head.{Head}
-use Rattle.store.specs.Directory.{fits, memoryAllowed}
-use Rattle.store.specs.Grounds.{memoryGround, headGround, numberGround, storeGround, lookGround}
+use Rattle.store.specs.Grounds.{fits, memoryAllowed, memoryGround, headGround, numberGround, storeGround, lookGround}
 
 -- none of the grounds 1, 4 and 5 holds of a store
 pub record Passed (head : Head) (pool directory : List ℕ) : Type 0 where
