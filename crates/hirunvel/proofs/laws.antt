@@ -1,2 +1,1 @@
-pub mod Scanners
-pub mod Outcomes
+pub mod scanning

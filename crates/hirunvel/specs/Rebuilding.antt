@@ -3,7 +3,7 @@ use Prim.Native.Nat.{ℕ}
 use mathlib.Core.List.{List, [], _∷_}
 use Rattle.refusal.specs.Number.{numberOf}
 use Rattle.rebuild.specs.Rebuilding.{rebuilt}
-use Rattle.hirunvel.specs.Storing.{headOf}
+use Rattle.numbers.specs.Storing.{headOf}
 
 -- what a rebuilding answers and writes
 pub record JobRebuilding : Type 0 where

@@ -8,22 +8,9 @@ use Rattle.refusal.specs.Number.{numberOf, accepted}
 use Rattle.refusal.specs.Grounds.{unless, first}
 use Rattle.refusal.specs.declared.Refusal.{Refusal}
 use Rattle.refusal.specs.declared.Refusal.the-variants.{Unsound}
-use Rattle.scan.specs.declared.Scanner.{Scanner}
-use Rattle.scan.specs.declared.Fed.{Fed}
 use Rattle.chunker.specs.Scanner.{windowGround, sound}
 use Rattle.chunker.specs.Answers.{opened, fed, finished}
-
--- "window, bytes since the last cut (count), place of the largest byte so far (first on a tie) and its value"
-abbrev pub numbersOf : Scanner → List ℕ
-numbersOf s = s .window ∷ s .count ∷ s .place ∷ s .value ∷ []
-
--- the scanner of four numbers
-abbrev pub scannerOf : List ℕ → Scanner
-scannerOf n = record { window = getD n 0 0; count = getD n 1 0; place = getD n 2 0; value = getD n 3 0 }
-
--- the first of the grounds 1 and 2 that holds of a scanner whose value is over 255, which is not sound
-abbrev pub overGround : ℕ → Refusal
-overGround w = first (windowGround w ∷ Unsound ∷ [])
+use Rattle.numbers.specs.Scanning.{numbersOf, scannerOf, told}
 
 -- "feeding and finishing 1 and 2": the first that holds of four numbers; "its value, a byte"
 unfoldable pub numbersGround : List ℕ → Refusal
@@ -44,10 +31,6 @@ pub record ScannerFeeding : Type 0 where
   pub refusal : ℕ
   pub scanner : List ℕ
   pub fed : List ℕ
-
--- "The answer says how many bytes were consumed and whether a cut follows", which 1 tells
-abbrev pub told : Fed → List ℕ
-told f = f .consumed ∷ cond (f .cut) 1 0 ∷ []
 
 -- "A refused feed hands the scanner back, consumes 0 and reports no cut"
 unfoldable pub scannerFed : List ℕ → List ℕ → ScannerFeeding

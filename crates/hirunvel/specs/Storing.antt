@@ -3,23 +3,13 @@ use Prim.Native.Nat.{ℕ}
 use mathlib.Core.Bool.{cond}
 use mathlib.Core.List.{List, [], _∷_}
 use lib.IntN.{ℤ}
-use lib.ListN.{getD}
 use Rattle.refusal.specs.Number.{numberOf, accepted}
-use Rattle.store.specs.declared.Head.{Head}
 use Rattle.admission.specs.declared.Admitted.{Admitted}
 use Rattle.directory.specs.Entry.{offsetAt, lengthAt}
 use Rattle.store.specs.Opening.{opened}
 use Rattle.admission.specs.Admission.{admitted}
 use Rattle.store.specs.Grounds.{lookGround}
-
--- "a head of three numbers (window, pieces, filled)"
-abbrev pub headOf : List ℕ → Head
-headOf n =
-    record { window = getD n 0 0; chunks = record { 0 = getD n 1 0 }; filled = record { 0 = getD n 2 0 } }
-
--- a head's three numbers
-abbrev pub headNumbers : Head → List ℕ
-headNumbers h = h .window ∷ h .chunks .0 ∷ h .filled .0 ∷ []
+use Rattle.numbers.specs.Storing.{headOf, headNumbers, countsOf}
 
 -- what an opening answers and writes
 pub record StoreOpening : Type 0 where
@@ -55,7 +45,7 @@ storeAdmitted n pool directory recipe job =
       pool = a .pool;
       directory = a .directory;
       recipe = a .recipe;
-      counts = a .answer .«recipe_length» ∷ a .answer .«new_bytes» ∷ a .answer .«repeated_bytes» ∷ [];
+      counts = countsOf (a .answer);
       saving = a .answer .saving ∷ [];
     }
 

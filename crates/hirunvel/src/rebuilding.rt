@@ -1,8 +1,6 @@
 // Rebuilding over numbers.
 ghost use mathlib.Core.Path.{_≡_};
 ghost use Rattle.hirunvel.specs.Rebuilding.{jobRebuilt};
-use crate::result;
-use crate::storing;
 
 // Writes the chunks that a recipe names to the output and tells how many bytes they are. Refused by
 // grounds 1, 4, 5, 9 and 10, with the output untouched and 0 told.
@@ -18,8 +16,8 @@ pub extern "C" fn hirunvel_rebuild(
     ensures { λ r. ⌜ record { refusal = r; output = now (output .exit); written = now (written .exit) }
         ≡ jobRebuilt (now (head .entry)) (now (pool .entry)) (now (directory .entry)) (now (recipe .entry)) (now (output .entry)) ⌝ }
 {
-    let answer = rebuild::rebuild(storing::head_of(*head), pool, directory, recipe, output);
+    let answer = rebuild::rebuild(numbers::head_of(*head), pool, directory, recipe, output);
     let refusal = answer.refusal;
     *written = [answer.written];
-    result::of(refusal)
+    numbers::of_refusal(refusal)
 }

@@ -1,49 +1,6 @@
-// The scanner as four numbers: window, count, place and value.
+// The scanner over numbers.
 ghost use mathlib.Core.Path.{_≡_};
-ghost use mathlib.Core.Bool.{true};
-ghost use Prim.Native.Nat.{_≤_};
-ghost use lib.ListN.{getD};
-ghost use Rattle.refusal.specs.Number.{numberOf};
-ghost use Rattle.scan.specs.Scanner.{fresh};
-ghost use Rattle.hirunvel.specs.Scanning.{numbersOf, scannerOf, overGround, scannerOpened, scannerFed, scannerFinished};
-use crate::result;
-use chunker::Scanner;
-use refusal::Refusal;
-
-// A scanner's four numbers.
-fn numbers_of(scanner: Scanner) -> [u32; 4]
-    ensures { λ r. ⌜ r ≡ numbersOf scanner ⌝ }
-{
-    [
-        scanner.window,
-        scanner.count,
-        scanner.place,
-        scanner.value as u32,
-    ]
-}
-
-// The scanner of four numbers, of which the last is a byte.
-fn scanner_of(numbers: [u32; 4]) -> Scanner
-    requires { ⌜ getD numbers 3 0 ≤ 255 ⌝ }
-    ensures { λ r. ⌜ r ≡ scannerOf numbers ⌝ }
-{
-    Scanner {
-        window: numbers[0],
-        count: numbers[1],
-        place: numbers[2],
-        value: numbers[3] as u8,
-    }
-}
-
-// The result for a scanner whose value is over 255: the first of the grounds 1 and 2.
-fn value_over_255(window: u32) -> u32
-    ensures { λ r. ⌜ r ≡ numberOf (overGround window) ⌝ }
-{
-    if chunker::window_allowed(window) {
-        return result::of(Refusal::Unsound);
-    }
-    result::of(Refusal::Window)
-}
+ghost use Rattle.hirunvel.specs.Scanning.{scannerOpened, scannerFed, scannerFinished};
 
 // Opens a scanner. Refused by ground 1, with all zeros.
 #[no_mangle]
@@ -52,21 +9,8 @@ pub extern "C" fn hirunvel_scanner_open(window: u32, scanner: &mut [u32; 4]) -> 
 {
     let answer = chunker::open(window);
     let refusal = answer.refusal;
-    *scanner = numbers_of(answer.scanner);
-    result::of(refusal)
-}
-
-// Whether no byte came since the last cut, so that the numbers are those of a fresh scanner.
-fn untouched(numbers: [u32; 4]) -> bool
-    ensures { λ r. ⌜ (r ≡ true → numbers ≡ numbersOf (fresh (getD numbers 0 0))) ⌝ }
-{
-    if numbers[1] != 0 {
-        return false;
-    }
-    if numbers[2] != 0 {
-        return false;
-    }
-    numbers[3] == 0
+    *scanner = numbers::of_scanner(answer.scanner);
+    numbers::of_refusal(refusal)
 }
 
 // Moves the scanner on over a part; tells the bytes consumed, and 1 if a cut follows them. Refused by
@@ -81,20 +25,20 @@ pub extern "C" fn hirunvel_scanner_feed(
     ensures { λ r. ⌜ record { refusal = r; scanner = now (scanner .exit); fed = now (fed .exit) }
         ≡ scannerFed (now (scanner .entry)) (now (part .entry)) ⌝ }
 {
-    let numbers = *scanner;
-    if 16 <= numbers[0] {
+    let lent = *scanner;
+    if 16 <= lent[0] {
         return feed_general(scanner, part, fed);
     }
-    if !untouched(numbers) {
+    if !numbers::untouched(lent) {
         return feed_general(scanner, part, fed);
     }
-    let answer = chunker::feed_fresh(numbers[0], part);
+    let answer = chunker::feed_fresh(lent[0], part);
     let refusal = answer.refusal;
-    *fed = [answer.consumed as u64, answer.cut as u64];
+    *fed = numbers::of_fed(answer);
     if !answer.cut {
-        *scanner = numbers_of(answer.scanner);
+        *scanner = numbers::of_scanner(answer.scanner);
     }
-    result::of(refusal)
+    numbers::of_refusal(refusal)
 }
 
 // The same for any scanner. Called from two places so that it is not inlined; the fast path then saves no
@@ -103,19 +47,18 @@ fn feed_general(scanner: &mut [u32; 4], part: &[u8], fed: &mut [u64; 2]) -> u32
     ensures { λ r. ⌜ record { refusal = r; scanner = now (scanner .exit); fed = now (fed .exit) }
         ≡ scannerFed (now (scanner .entry)) (now (part .entry)) ⌝ }
 {
-    let numbers = *scanner;
-    if 255 < numbers[3] {
+    let lent = *scanner;
+    if 255 < lent[3] {
         *fed = [0, 0];
-        return value_over_255(numbers[0]);
+        return numbers::value_over_255(lent[0]);
     }
-    let answer = chunker::feed(scanner_of(numbers), part);
+    let answer = chunker::feed(numbers::scanner_of(lent), part);
     let refusal = answer.refusal;
-    *fed = [answer.consumed as u64, answer.cut as u64];
-    if !refusal::accepted(refusal) {
-        return result::of(refusal);
+    *fed = numbers::of_fed(answer);
+    if refusal::accepted(refusal) {
+        *scanner = numbers::of_scanner(answer.scanner);
     }
-    *scanner = numbers_of(answer.scanner);
-    result::of(refusal)
+    numbers::of_refusal(refusal)
 }
 
 // Ends a job: tells the length of the last chunk, which no cut has ended. Refused by grounds 1 and 2,
@@ -125,17 +68,16 @@ pub extern "C" fn hirunvel_scanner_finish(scanner: &mut [u32; 4], count: &mut u6
     ensures { λ r. ⌜ record { refusal = r; scanner = now (scanner .exit); count = now (count .exit) }
         ≡ scannerFinished (now (scanner .entry)) ⌝ }
 {
-    let numbers = *scanner;
-    if 255 < numbers[3] {
+    let lent = *scanner;
+    if 255 < lent[3] {
         *count = 0;
-        return value_over_255(numbers[0]);
+        return numbers::value_over_255(lent[0]);
     }
-    let answer = chunker::finish(scanner_of(numbers));
+    let answer = chunker::finish(numbers::scanner_of(lent));
     let refusal = answer.refusal;
     *count = answer.count as u64;
-    if !refusal::accepted(refusal) {
-        return result::of(refusal);
+    if refusal::accepted(refusal) {
+        *scanner = numbers::of_scanner(answer.scanner);
     }
-    *scanner = numbers_of(answer.scanner);
-    result::of(refusal)
+    numbers::of_refusal(refusal)
 }

@@ -1,30 +1,7 @@
-// The store over numbers: its head is three, window, chunks and filled.
+// The store over numbers.
 ghost use mathlib.Core.Path.{_≡_};
-ghost use Rattle.hirunvel.specs.Storing.{headOf, headNumbers, storeOpened, storeAdmitted, storeLooked};
-use crate::result;
+ghost use Rattle.hirunvel.specs.Storing.{storeOpened, storeAdmitted, storeLooked};
 use store::ChunkNumber;
-use store::Head;
-use store::PoolOffset;
-
-// The head of three numbers.
-pub fn head_of(numbers: [u32; 3]) -> Head
-    ensures { λ r. ⌜ r ≡ headOf numbers ⌝ }
-{
-    Head {
-        window: numbers[0],
-        chunks: ChunkNumber(numbers[1]),
-        filled: PoolOffset(numbers[2]),
-    }
-}
-
-// A head's three numbers.
-fn head_numbers(head: Head) -> [u32; 3]
-    ensures { λ r. ⌜ r ≡ headNumbers head ⌝ }
-{
-    let chunks = head.chunks;
-    let filled = head.filled;
-    [head.window, chunks.0, filled.0]
-}
 
 // Opens a store. Refused by ground 1, with all zeros.
 #[no_mangle]
@@ -33,8 +10,8 @@ pub extern "C" fn hirunvel_store_open(window: u32, head: &mut [u32; 3]) -> u32
 {
     let answer = store::open(window);
     let refusal = answer.refusal;
-    *head = head_numbers(answer.head);
-    result::of(refusal)
+    *head = numbers::of_head(answer.head);
+    numbers::of_refusal(refusal)
 }
 
 // Admits a job; tells the recipe's length, the new and the repeated bytes, and the saving. Refused
@@ -60,19 +37,14 @@ pub extern "C" fn hirunvel_store_admit(
     }
         ≡ storeAdmitted (now (head .entry)) (now (pool .entry)) (now (directory .entry)) (now (recipe .entry)) (now (job .entry)) ⌝ }
 {
-    let answer = admission::admit(head_of(*head), pool, directory, recipe, job);
+    let answer = admission::admit(numbers::head_of(*head), pool, directory, recipe, job);
     let refusal = answer.refusal;
-    *counts = [
-        answer.recipe_length as u64,
-        answer.new_bytes as u64,
-        answer.repeated_bytes as u64,
-    ];
+    *counts = numbers::of_counts(answer);
     *saving = [answer.saving];
-    if !refusal::accepted(refusal) {
-        return result::of(refusal);
+    if refusal::accepted(refusal) {
+        *head = numbers::of_head(answer.head);
     }
-    *head = head_numbers(answer.head);
-    result::of(refusal)
+    numbers::of_refusal(refusal)
 }
 
 // Tells a chunk's offset in the pool and its length. Refused by grounds 1, 4, 5 and 9, with zeros
@@ -88,13 +60,18 @@ pub extern "C" fn hirunvel_store_look(
     ensures { λ r. ⌜ record { refusal = r; stretch = now (stretch .exit) }
         ≡ storeLooked (now (head .entry)) (now (pool .entry)) (now (directory .entry)) number ⌝ }
 {
-    let refusal = store::look_ground(head_of(*head), pool, directory, ChunkNumber(number));
+    let refusal = store::look_ground(
+        numbers::head_of(*head),
+        pool,
+        directory,
+        ChunkNumber(number),
+    );
     if !refusal::accepted(refusal) {
         *stretch = [0, 0];
-        return result::of(refusal);
+        return numbers::of_refusal(refusal);
     }
     let found = store::stretch_of(directory, ChunkNumber(number));
     let offset = found.offset;
     *stretch = [offset.0 as u64, found.length as u64];
-    result::of(refusal)
+    numbers::of_refusal(refusal)
 }

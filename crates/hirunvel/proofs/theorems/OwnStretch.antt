@@ -9,7 +9,8 @@ use Rattle.refusal.specs.Number.{accepted}
 use Rattle.store.specs.Grounds.{lookGround}
 use Rattle.store.specs.Looking.{shown}
 use Rattle.store.proofs.laws.Stretches.{look-placed}
-use Rattle.hirunvel.specs.Storing.{headOf, storeLooked}
+use Rattle.numbers.specs.Storing.{headOf}
+use Rattle.hirunvel.specs.Storing.{storeLooked}
 
 -- "the answer is the piece's own stretch of the pool": what a look tells in numbers is what a look shows
 pub record OwnStretch (n pool directory : List ℕ) (number : ℕ) : Type 0 where

@@ -18,7 +18,8 @@ use Rattle.promises.proofs.laws.Events.{Fitting, grows, start-fits, byt
 use Rattle.promises.proofs.theorems.FirstAppearances.{first-appearances}
 use Rattle.promises.proofs.theorems.GivesBack.{gives-back}
 use Rattle.promises.proofs.theorems.Promise.{promise}
-use Rattle.hirunvel.specs.Storing.{headNumbers, storeOpened, storeAdmitted}
+use Rattle.numbers.specs.Storing.{headNumbers}
+use Rattle.hirunvel.specs.Storing.{storeOpened, storeAdmitted}
 use Rattle.hirunvel.specs.Rebuilding.{jobRebuilt}
 use Rattle.promises.specs.Calls.{Memory, opened, call, leaves, chunksOf, before, chunksBefore, callAt, AcceptedCall, recipeOf, Counts, GivesBack, rebuild, PromisedCalls}
 

@@ -23,7 +23,8 @@ use Rattle.chunker.specs.Splitting as splitting
 use Rattle.chunker.specs.Splitting.{joined, Feeding}
 use Rattle.chunker.proofs.laws.ground.Soundness.{ground-sound, fed-ground, fed-accepted, scan-sound, bytes-parts, bytes-append, bytes-drop, opened-fresh}
 use Rattle.chunker.proofs.theorems.EverySplitting.{every-splitting, only-splitting}
-use Rattle.hirunvel.specs.Scanning.{numbersOf, scannerOf, numbersGround, told, scannerOpened, scannerFed, scannerFinished}
+use Rattle.numbers.specs.Scanning.{numbersOf, scannerOf, told}
+use Rattle.hirunvel.specs.Scanning.{numbersGround, scannerOpened, scannerFed, scannerFinished}
 use Rattle.promises.specs.FeedCalls.{FeedCalls, cutting, passing, finishing}
 
 -- four numbers whose ground is none are those of a scanner, of which none holds either

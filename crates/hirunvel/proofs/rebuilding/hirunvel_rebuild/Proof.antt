@@ -10,8 +10,8 @@ head-of-requires c κs = search needs
 rebuild-requires : tie.Need-rebuild-requires
 rebuild-requires c κs = search needs
 
-of-requires : tie.Need-of-requires
-of-requires c κs = search needs
+of-refusal-requires : tie.Need-of-refusal-requires
+of-refusal-requires c κs = search needs
 
 same-length : tie.Need-same-length
 same-length c = search needs
@@ -20,8 +20,8 @@ returns : tie.Need-returns
 unfolding jobRebuilt
 returns c =
     let done = rw (c .before .before .before .before .before .before .head-of .ensures) at (c .before .before .before .before .rebuild .ensures) in
-    rw (c .of .ensures, ← done)
+    rw (c .of-refusal .ensures, ← done)
 
 pub hirunvel-rebuild-spec : {M : Type 1} → statement M
 hirunvel-rebuild-spec =
-    tie.close (tie.spec head-of-requires rebuild-requires of-requires same-length returns)
+    tie.close (tie.spec head-of-requires rebuild-requires of-refusal-requires same-length returns)

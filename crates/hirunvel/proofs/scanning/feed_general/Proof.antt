@@ -1,10 +1,12 @@
 -- `hirunvel::scanning::feed_general` meets its contract.
 use mathlib.Core.Path.{_≡_, sym, ap, _∙_}
-use borrow.Author.Needs.{needs}
-use borrow.Author.Tests.{not-true, not-false}
+use mathlib.Core.Logic.{⊎-elim}
+use mathlib.Core.Bool.{cond}
+use Rattle.refusal.specs.Number.{accepted}
 use Rattle.chunker.specs.Answers.{fed}
-use Rattle.hirunvel.specs.Scanning.{scannerOf}
-use Rattle.hirunvel.proofs.laws.Scanners.{written, fed-over, fed-moves, fed-leaves}
+use Rattle.numbers.specs.Scanning.{numbersOf}
+use Rattle.hirunvel.proofs.laws.scanning.Answers.{fed-over, fed-after}
+use borrow.Author.Needs.{needs}
 use Rattle.hirunvel.proofs.scanning.feed_general.Statement.{statement}
 use Rattle.hirunvel.proofs.scanning.feed_general.Tie as tie
 
@@ -26,37 +28,31 @@ scanner-of-requires c κs = search needs
 feed-requires : tie.Need-feed-requires
 feed-requires c κs = search needs
 
-cast-t17 : tie.Need-cast-t17
-cast-t17 c = search needs
+of-fed-requires : tie.Need-of-fed-requires
+of-fed-requires c κs = search needs
 
 accepted-requires : tie.Need-accepted-requires
 accepted-requires c κs = search needs
 
-of-requires : tie.Need-of-requires
-of-requires c κs = search needs
+of-scanner-requires : tie.Need-of-scanner-requires
+of-scanner-requires c κs = search needs
 
--- the answer to the lent numbers and the lent part
-answered : (c : tie.After-feed) → let a = c .before .before .before .before .before .args in
-    c .feed .result ≡ fed (scannerOf (a .scanner .now)) (a .part .now)
-answered c = c .feed .ensures ∙ ap (λ s. fed s (c .before .before .before .before .before .args .part .now)) (c .before .scanner-of .ensures)
+of-refusal-requires : tie.Need-of-refusal-requires
+of-refusal-requires c κs = search needs
 
 returns-2 : tie.Need-returns-2
 returns-2 c =
-    let a = c .before .before .before .before .before .before .before .before .before .before .args in
-    let test = sym (c .before .before .accepted .ensures) ∙ not-true _ (c .before .if2 .taken) in
-    rw (fed-leaves (a .scanner .now) (c .before .before .before .before .before .before .before .if1 .left) (a .part .now) _ (answered (c .before .before .before .before .before)) test, c .of .ensures, written (c .before .before .before .before .before .feed .result))
-
-numbers-of-requires : tie.Need-numbers-of-requires
-numbers-of-requires c κs = search needs
-
-of-requires-2 : tie.Need-of-requires-2
-of-requires-2 c κs = search needs
-
-returns-3 : tie.Need-returns-3
-returns-3 c =
-    let a = c .before .before .before .before .before .before .before .before .before .before .before .args in
-    let test = sym (c .before .before .before .accepted .ensures) ∙ not-false _ (c .before .before .if2 .left) in
-    rw (fed-moves (a .scanner .now) (c .before .before .before .before .before .before .before .before .if1 .left) (a .part .now) _ (answered (c .before .before .before .before .before .before)) test, c .of2 .ensures, c .before .numbers-of .ensures, written (c .before .before .before .before .before .before .feed .result))
+    let joined = c .before in
+    let tested = joined .before in
+    let feed = tested .before .before in
+    let a = feed .before .before .before .before .before .args in
+    let f = feed .feed .result in
+    let answered = feed .feed .ensures ∙ ap (λ s. fed s (a .part .now)) (feed .before .scanner-of .ensures) in
+    let scanner : joined .if2 .scanner ≡ cond (accepted (f .refusal)) (numbersOf (f .scanner)) (a .scanner .now) =
+    ⊎-elim (λ moved. rw (sym (tested .accepted .ensures) ∙ moved .0 .taken) (moved .2 ∙ moved .1 .ensures))
+    (λ kept. rw (sym (tested .accepted .ensures) ∙ kept .0 .left) (kept .1))
+    (joined .if2 .came) in
+    rw (fed-after (a .scanner .now) (feed .before .before .if1 .left) (a .part .now) f answered, c .of-refusal .ensures, scanner, tested .before .of-fed .ensures)
 
 pub feed-general-spec : {M : Type 1} → statement M
 feed-general-spec =
@@ -68,10 +64,8 @@ feed-general-spec =
     returns
     scanner-of-requires
     feed-requires
-    cast-t17
+    of-fed-requires
     accepted-requires
-    of-requires
-    returns-2
-    numbers-of-requires
-    of-requires-2
-    returns-3)
+    of-scanner-requires
+    of-refusal-requires
+    returns-2)

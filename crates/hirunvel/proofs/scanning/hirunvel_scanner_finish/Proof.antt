@@ -1,9 +1,12 @@
 -- `hirunvel::scanning::hirunvel_scanner_finish` meets its contract.
-use mathlib.Core.Path.{sym, ap, _∙_}
-use borrow.Author.Needs.{needs}
-use borrow.Author.Tests.{not-true, not-false}
+use mathlib.Core.Path.{_≡_, sym, ap, _∙_}
+use mathlib.Core.Logic.{⊎-elim}
+use mathlib.Core.Bool.{cond}
+use Rattle.refusal.specs.Number.{accepted}
 use Rattle.chunker.specs.Answers.{finished}
-use Rattle.hirunvel.proofs.laws.Scanners.{finished-over, finish-moves, finish-leaves}
+use Rattle.numbers.specs.Scanning.{numbersOf}
+use Rattle.hirunvel.proofs.laws.scanning.Answers.{finished-over, finished-after}
+use borrow.Author.Needs.{needs}
 use Rattle.hirunvel.proofs.scanning.hirunvel_scanner_finish.Statement.{statement}
 use Rattle.hirunvel.proofs.scanning.hirunvel_scanner_finish.Tie as tie
 
@@ -31,26 +34,25 @@ cast-count c = search needs
 accepted-requires : tie.Need-accepted-requires
 accepted-requires c κs = search needs
 
-of-requires : tie.Need-of-requires
-of-requires c κs = search needs
+of-scanner-requires : tie.Need-of-scanner-requires
+of-scanner-requires c κs = search needs
+
+of-refusal-requires : tie.Need-of-refusal-requires
+of-refusal-requires c κs = search needs
 
 returns-2 : tie.Need-returns-2
 returns-2 c =
-    let answer = c .before .before .before .before .finish .ensures ∙ ap finished (c .before .before .before .before .before .scanner-of .ensures) in
-    let test = sym (c .before .before .accepted .ensures) ∙ not-true _ (c .before .if2 .taken) in
-    rw (finish-leaves _ (c .before .before .before .before .before .before .if1 .left) _ answer test, c .of .ensures)
-
-numbers-of-requires : tie.Need-numbers-of-requires
-numbers-of-requires c κs = search needs
-
-of-requires-2 : tie.Need-of-requires-2
-of-requires-2 c κs = search needs
-
-returns-3 : tie.Need-returns-3
-returns-3 c =
-    let answer = c .before .before .before .before .before .finish .ensures ∙ ap finished (c .before .before .before .before .before .before .scanner-of .ensures) in
-    let test = sym (c .before .before .before .accepted .ensures) ∙ not-false _ (c .before .before .if2 .left) in
-    rw (finish-moves _ (c .before .before .before .before .before .before .before .if1 .left) _ answer test, c .of2 .ensures, c .before .numbers-of .ensures)
+    let joined = c .before in
+    let tested = joined .before in
+    let finish = tested .before .before in
+    let a = finish .before .before .before .before .args in
+    let f = finish .finish .result in
+    let answered = finish .finish .ensures ∙ ap finished (finish .before .scanner-of .ensures) in
+    let scanner : joined .if2 .scanner ≡ cond (accepted (f .refusal)) (numbersOf (f .scanner)) (a .scanner .now) =
+    ⊎-elim (λ moved. rw (sym (tested .accepted .ensures) ∙ moved .0 .taken) (moved .2 ∙ moved .1 .ensures))
+    (λ kept. rw (sym (tested .accepted .ensures) ∙ kept .0 .left) (kept .1))
+    (joined .if2 .came) in
+    rw (finished-after (a .scanner .now) (finish .before .before .if1 .left) f answered, c .of-refusal .ensures, scanner)
 
 pub hirunvel-scanner-finish-spec : {M : Type 1} → statement M
 hirunvel-scanner-finish-spec =
@@ -64,8 +66,6 @@ hirunvel-scanner-finish-spec =
     finish-requires
     cast-count
     accepted-requires
-    of-requires
-    returns-2
-    numbers-of-requires
-    of-requires-2
-    returns-3)
+    of-scanner-requires
+    of-refusal-requires
+    returns-2)

@@ -1,12 +1,14 @@
 -- `hirunvel::storing::hirunvel_store_admit` meets its contract.
 use mathlib.Core.Path.{_≡_, sym, _∙_}
+use mathlib.Core.Logic.{⊎-elim}
+use mathlib.Core.Bool.{cond}
 use mir.Syntax.{w64}
 use mir.Val.{toZ, ofZ}
-use borrow.Author.Needs.{needs}
-use borrow.Author.Tests.{not-true, not-false}
+use Rattle.refusal.specs.Number.{accepted}
 use Rattle.admission.specs.Admission.{Admission, admitted}
-use Rattle.hirunvel.specs.Storing.{headOf}
-use Rattle.hirunvel.proofs.laws.Outcomes.{admit-moves, admit-leaves}
+use Rattle.numbers.specs.Storing.{headOf, headNumbers}
+use Rattle.hirunvel.specs.Storing.{storeAdmitted}
+use borrow.Author.Needs.{needs}
 use Rattle.hirunvel.proofs.storing.hirunvel_store_admit.Statement.{statement}
 use Rattle.hirunvel.proofs.storing.hirunvel_store_admit.Tie as tie
 
@@ -16,20 +18,17 @@ head-of-requires c κs = search needs
 admit-requires : tie.Need-admit-requires
 admit-requires c κs = search needs
 
-cast-t18 : tie.Need-cast-t18
-cast-t18 c = search needs
-
-cast-t19 : tie.Need-cast-t19
-cast-t19 c = search needs
-
-cast-t20 : tie.Need-cast-t20
-cast-t20 c = search needs
+of-counts-requires : tie.Need-of-counts-requires
+of-counts-requires c κs = search needs
 
 accepted-requires : tie.Need-accepted-requires
 accepted-requires c κs = search needs
 
-of-requires : tie.Need-of-requires
-of-requires c κs = search needs
+of-head-requires : tie.Need-of-head-requires
+of-head-requires c κs = search needs
+
+of-refusal-requires : tie.Need-of-refusal-requires
+of-refusal-requires c κs = search needs
 
 same-length : tie.Need-same-length
 same-length c = search needs
@@ -58,33 +57,23 @@ done c =
     rw (c .before .before .before .before .head-of .ensures) at (c .admit .ensures)
 
 -- the saving is kept whole in its 64 bits
-kept : (c : tie.After-saving) → let z = c .before .before .before .before .before .before .before .before .before .before .before .before .admit .result .saving in toZ w64 (ofZ w64 z) ≡ z
+kept : (c : tie.After-saving) → let z = c .before .before .before .before .before .before .before .before .before .admit .result .saving in toZ w64 (ofZ w64 z) ≡ z
 kept c = search needs
 
 returns : tie.Need-returns
+unfolding storeAdmitted
 returns c =
-    let test = sym (c .before .before .accepted .ensures) ∙ not-true _ (c .before .if1 .taken) in
-    rw (admit-leaves _ _ _ _ _ _ (done (c .before .before .before .before .before .before .before .before .before .before .before .before .before .before .before)) test, c .of .ensures, kept (c .before .before .before))
-
-head-numbers-requires : tie.Need-head-numbers-requires
-head-numbers-requires c κs = search needs
-
-of-requires-2 : tie.Need-of-requires-2
-of-requires-2 c κs = search needs
-
-same-length-4 : tie.Need-same-length-4
-same-length-4 c = search needs
-
-same-length-5 : tie.Need-same-length-5
-same-length-5 c = search needs
-
-same-length-6 : tie.Need-same-length-6
-same-length-6 c = search needs
-
-returns-2 : tie.Need-returns-2
-returns-2 c =
-    let test = sym (c .before .before .before .accepted .ensures) ∙ not-false _ (c .before .before .if1 .left) in
-    rw (admit-moves _ _ _ _ _ _ (done (c .before .before .before .before .before .before .before .before .before .before .before .before .before .before .before .before)) test, c .of2 .ensures, c .before .head-numbers .ensures, kept (c .before .before .before .before))
+    let joined = c .before in
+    let tested = joined .before in
+    let counted = tested .before .before .before in
+    let admit = counted .before .before .before .before .before .before .before in
+    let a = admit .before .before .before .before .before .before .before .before .before .before .args in
+    let answer = admit .admit .result in
+    let head : joined .if1 .head ≡ cond (accepted (answer .refusal)) (headNumbers (answer .head)) (a .head .now) =
+    ⊎-elim (λ moved. rw (sym (tested .accepted .ensures) ∙ moved .0 .taken) (moved .2 ∙ moved .1 .ensures))
+    (λ same. rw (sym (tested .accepted .ensures) ∙ same .0 .left) (same .1))
+    (joined .if1 .came) in
+    rw (← done admit, c .of-refusal .ensures, head, counted .of-counts .ensures, kept (tested .before))
 
 pub hirunvel-store-admit-spec : {M : Type 1} → statement M
 hirunvel-store-admit-spec =
@@ -92,18 +81,11 @@ hirunvel-store-admit-spec =
     (tie.spec
     head-of-requires
     admit-requires
-    cast-t18
-    cast-t19
-    cast-t20
+    of-counts-requires
     accepted-requires
-    of-requires
+    of-head-requires
+    of-refusal-requires
     same-length
     same-length-2
     same-length-3
-    returns
-    head-numbers-requires
-    of-requires-2
-    same-length-4
-    same-length-5
-    same-length-6
-    returns-2)
+    returns)

@@ -17,15 +17,15 @@ look-ground-requires c κs = search needs
 accepted-requires : tie.Need-accepted-requires
 accepted-requires c κs = search needs
 
-of-requires : tie.Need-of-requires
-of-requires c κs = search needs
+of-refusal-requires : tie.Need-of-refusal-requires
+of-refusal-requires c κs = search needs
 
 returns : tie.Need-returns
 unfolding storeLooked
 returns c =
     let ground = rw (c .before .before .before .before .before .head-of .ensures) at (c .before .before .before .before .look-ground .ensures) in
     let test = sym (ap accepted ground) ∙ (sym (c .before .before .before .accepted .ensures) ∙ not-true _ (c .before .before .if1 .taken)) in
-    rw (test, c .of .ensures, ground)
+    rw (test, c .of-refusal .ensures, ground)
 
 stretch-of-requires : tie.Need-stretch-of-requires
 stretch-of-requires c κs = search needs
@@ -36,8 +36,8 @@ cast-t14 c = search needs
 cast-t15 : tie.Need-cast-t15
 cast-t15 c = search needs
 
-of-requires-2 : tie.Need-of-requires-2
-of-requires-2 c κs = search needs
+of-refusal-requires-2 : tie.Need-of-refusal-requires-2
+of-refusal-requires-2 c κs = search needs
 
 returns-2 : tie.Need-returns-2
 unfolding storeLooked
@@ -46,7 +46,7 @@ returns-2 c =
     let test = sym (ap accepted ground) ∙ (sym (c .before .before .before .before .before .before .before .accepted .ensures) ∙ not-false _ (c .before .before .before .before .before .before .if1 .left)) in
     let placed = look-placed _ _ _ _ test in
     let found = c .before .before .before .before .before .stretch-of .ensures ∙ stretch-found _ _ (placed .inDirectory) in
-    rw (test, c .of2 .ensures, ground, found)
+    rw (test, c .of-refusal2 .ensures, ground, found)
 
 pub hirunvel-store-look-spec : {M : Type 1} → statement M
 hirunvel-store-look-spec =
@@ -55,10 +55,10 @@ hirunvel-store-look-spec =
     head-of-requires
     look-ground-requires
     accepted-requires
-    of-requires
+    of-refusal-requires
     returns
     stretch-of-requires
     cast-t14
     cast-t15
-    of-requires-2
+    of-refusal-requires-2
     returns-2)

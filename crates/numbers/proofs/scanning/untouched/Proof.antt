@@ -1,9 +1,9 @@
--- `hirunvel::scanning::untouched` meets its contract.
+-- `numbers::scanning::untouched` meets its contract.
 use borrow.Author.Needs.{needs}
 use borrow.Author.Tests.{eqb-true}
-use Rattle.hirunvel.proofs.laws.Scanners.{no-byte-since}
-use Rattle.hirunvel.proofs.scanning.untouched.Statement.{statement}
-use Rattle.hirunvel.proofs.scanning.untouched.Tie as tie
+use Rattle.numbers.proofs.laws.Untouched.{no-byte-since}
+use Rattle.numbers.proofs.scanning.untouched.Statement.{statement}
+use Rattle.numbers.proofs.scanning.untouched.Tie as tie
 
 array-read-if1 : tie.Need-array-read-if1
 array-read-if1 c = search needs

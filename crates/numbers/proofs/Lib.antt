@@ -1,0 +1,2 @@
+-- laws/Untouched has the numbers of a fresh scanner.
+pub mod laws

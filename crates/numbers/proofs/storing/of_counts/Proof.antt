@@ -1,0 +1,20 @@
+-- `numbers::storing::of_counts` meets its contract.
+use mathlib.Core.Path.{refl}
+use borrow.Author.Needs.{needs}
+use Rattle.numbers.proofs.storing.of_counts.Statement.{statement}
+use Rattle.numbers.proofs.storing.of_counts.Tie as tie
+
+cast-t2 : tie.Need-cast-t2
+cast-t2 c = search needs
+
+cast-t3 : tie.Need-cast-t3
+cast-t3 c = search needs
+
+cast-t4 : tie.Need-cast-t4
+cast-t4 c = search needs
+
+returns : tie.Need-returns
+returns c = refl
+
+pub of-counts-spec : {M : Type 1} → statement M
+of-counts-spec = tie.close (tie.spec cast-t2 cast-t3 cast-t4 returns)

@@ -1,0 +1,19 @@
+-- A head and the counts of an admission, as numbers.
+use Prim.Native.Nat.{ℕ}
+use mathlib.Core.List.{List, [], _∷_}
+use lib.ListN.{getD}
+use Rattle.store.specs.declared.Head.{Head}
+use Rattle.admission.specs.declared.Admitted.{Admitted}
+
+-- "a head of three numbers (window, pieces, filled)"
+abbrev pub headOf : List ℕ → Head
+headOf n =
+    record { window = getD n 0 0; chunks = record { 0 = getD n 1 0 }; filled = record { 0 = getD n 2 0 } }
+
+-- a head's three numbers
+abbrev pub headNumbers : Head → List ℕ
+headNumbers h = h .window ∷ h .chunks .0 ∷ h .filled .0 ∷ []
+
+-- "recipe length, new bytes, repeated bytes"
+abbrev pub countsOf : Admitted → List ℕ
+countsOf a = a .«recipe_length» ∷ a .«new_bytes» ∷ a .«repeated_bytes» ∷ []

@@ -1,0 +1,44 @@
+// A head and the counts of an admission as numbers.
+ghost use mathlib.Core.Path.{_≡_};
+ghost use Rattle.numbers.specs.Storing.{headOf, headNumbers, countsOf};
+use admission::Admitted;
+use store::ChunkNumber;
+use store::Head;
+use store::PoolOffset;
+
+// A head's window, chunks and filled.
+pub type HeadNumbers = [u32; 3];
+
+// An admission's recipe length, new bytes and repeated bytes.
+pub type Counts = [u64; 3];
+
+// The head of three numbers.
+pub fn head_of(numbers: HeadNumbers) -> Head
+    ensures { λ r. ⌜ r ≡ headOf numbers ⌝ }
+{
+    Head {
+        window: numbers[0],
+        chunks: ChunkNumber(numbers[1]),
+        filled: PoolOffset(numbers[2]),
+    }
+}
+
+// The numbers of a head.
+pub fn of_head(head: Head) -> HeadNumbers
+    ensures { λ r. ⌜ r ≡ headNumbers head ⌝ }
+{
+    let chunks = head.chunks;
+    let filled = head.filled;
+    [head.window, chunks.0, filled.0]
+}
+
+// The counts of an admission.
+pub fn of_counts(answer: Admitted) -> Counts
+    ensures { λ r. ⌜ r ≡ countsOf answer ⌝ }
+{
+    [
+        answer.recipe_length as u64,
+        answer.new_bytes as u64,
+        answer.repeated_bytes as u64,
+    ]
+}
