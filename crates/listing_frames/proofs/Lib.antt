@@ -1,4 +1,4 @@
--- theorems/HandWorked has listings that the paper lays down. laws/Listed leads from how an admission ends to the listing; the
--- other laws serve it and the loops that write.
+-- theorems/HandWorked has listings that the paper lays down. laws/Listed leads from how an admission ends to the listing;
+-- laws/chunks serves it and the loop that writes.
 pub mod laws
 pub mod theorems

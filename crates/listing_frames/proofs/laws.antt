@@ -1,4 +1,2 @@
-pub mod Stores
-pub mod Walking
-pub mod NewChunks
+pub mod chunks
 pub mod Listed

@@ -1,10 +1,10 @@
--- The listing of a job: "prints a frame a line, 22 upper-case hexadecimal digits and a line feed".
-use Prim.Native.Nat.{ℕ, zero, suc, _+_, _*_, _/_, _%_}
+-- The listing of a job: "prints a frame a line".
+use Prim.Native.Nat.{ℕ, _+_, _*_}
 use mathlib.Core.Bool.{cond}
 use mathlib.Core.List.{List, [], _∷_, _++_}
-use lib.Dec.{leb, ltb}
+use lib.Dec.{leb}
 use lib.ListN.{length, drop, replicate}
-use Rattle.refusal.specs.Number.{numberOf, accepted}
+use Rattle.refusal.specs.Number.{accepted}
 use Rattle.refusal.specs.declared.Refusal.{Refusal}
 use Rattle.refusal.specs.declared.Refusal.the-variants.{Accepted, JobLength}
 use Rattle.chunker.specs.Chunks.{chunks}
@@ -12,6 +12,7 @@ use Rattle.directory.specs.Entry.{stride}
 use Rattle.store.specs.Opening.{fresh}
 use Rattle.store.specs.Contents.{has}
 use Rattle.admission.specs.Admission.{Admission, admitted, recipeOf}
+use Rattle.frame_text.specs.Frame.{frame, lastFrame}
 use Rattle.listing_frames.specs.declared.Listed.{Listed}
 
 -- "window 4, a pool of 32,768 bytes, 1,024 entries and 1,024 recipe places"
@@ -31,23 +32,6 @@ recipePlaces = 1024
 abbrev pub longestJob : ℕ
 longestJob = 16384
 
--- the character of a digit: 48 is "0", and 55 is 10 less than "A"
-abbrev pub digit : ℕ → ℕ
-digit d = cond (ltb d 10) (48 + d) (55 + d)
-
--- the last `width` hexadecimal digits of a number
-unfoldable pub hex : ℕ → ℕ → List ℕ
-hex zero n = []
-hex (suc width) n = hex width (n / 16) ++ (digit (n % 16) ∷ [])
-
--- "22 upper-case hexadecimal digits and a line feed"
-abbrev pub frameBytes : ℕ
-frameBytes = 23
-
--- "piece number (4), job position from 0 (8), length (8), 01 for new or 00 for repeated (2)" and a line feed
-unfoldable pub frame : ℕ → ℕ → ℕ → ℕ → List ℕ
-frame number position size mark = hex 4 number ++ (hex 8 position ++ (hex 8 size ++ (hex 2 mark ++ (10 ∷ []))))
-
 -- the frames of chunks that follow one another from a position of the job on, with their numbers; a chunk is new where
 -- `earlier`, the job's chunks before it, do not have it
 unfoldable pub chunkFrames : List (List ℕ) → ℕ → List (List ℕ) → List ℕ → List ℕ
@@ -56,10 +40,6 @@ chunkFrames earlier position (c ∷ cs) [] = []
 chunkFrames earlier position (c ∷ cs) (n ∷ ns) =
     frame n position (length c) (cond (has earlier c) 0 1)
     ++ chunkFrames (earlier ++ (c ∷ [])) (position + length c) cs ns
-
--- "The last frame is FFFF, new bytes (8), job length (8), refusal or 00 (2)"
-abbrev pub lastFrame : ℕ → ℕ → Refusal → List ℕ
-lastFrame newBytes jobLength refusal = frame 65535 newBytes jobLength (numberOf refusal)
 
 -- "A refused job gives the last frame only, both counts 0"
 abbrev pub refusedFrame : Refusal → List ℕ

@@ -4,11 +4,11 @@ ghost use Prim.Native.Nat.{_*_, _≤_};
 ghost use lib.ListN.{length};
 ghost use lib.Seq.{sets};
 ghost use Rattle.chunker.specs.Chunks.{chunks};
-ghost use Rattle.listing_frames.specs.Frames.{window, longestJob, frameBytes};
+ghost use Rattle.frame_text.specs.Frame.{frameBytes};
+ghost use Rattle.listing_frames.specs.Frames.{window, longestJob};
 ghost use Rattle.listing_frames.specs.internal.Counted.{mark, countedFrames};
 use crate::WINDOW;
-use crate::text;
-use crate::text::FRAME_BYTES;
+use frame_text::FRAME_BYTES;
 use store::ChunkNumber;
 use store::JobPosition;
 
@@ -35,7 +35,7 @@ pub fn frames(job: &[u8], recipe: &[u32], output: &mut [u8]) -> usize
         let size = chunker::next_chunk(WINDOW, &job[at..]);
         let number = recipe[used];
         let new = mark(ChunkNumber(number), ChunkNumber(next));
-        text::chunk_frame(
+        frame_text::chunk_frame(
             output,
             FRAME_BYTES * used,
             ChunkNumber(number),

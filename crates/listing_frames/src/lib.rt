@@ -3,10 +3,9 @@ ghost use mathlib.Core.Path.{_≡_};
 ghost use Rattle.listing_frames.specs.Frames.{refusedFrame, written, listed};
 
 mod chunks;
-mod text;
 
+use frame_text::FRAME_BYTES;
 use refusal::Refusal;
-use text::FRAME_BYTES;
 
 // A longer job is refused by ground 3.
 pub const LONGEST_JOB: usize = 16384;
@@ -34,7 +33,7 @@ pub struct Listed {
 fn refused(output: &mut [u8; OUTPUT_BYTES], refusal: Refusal) -> Listed
     ensures { λ r. ⌜ record { answer = r; output = now (output .exit) } ≡ written refusal (refusedFrame refusal) (now (output .entry)) ⌝ }
 {
-    let written = text::last_frame(output, 0, 0, 0, refusal);
+    let written = frame_text::last_frame(output, 0, 0, 0, refusal);
     Listed { refusal, written }
 }
 
@@ -57,6 +56,12 @@ pub fn frames(job: &[u8], output: &mut [u8; OUTPUT_BYTES]) -> Listed
         return refused(output, refusal);
     }
     let end = chunks::frames(job, &recipe, output);
-    let written = text::last_frame(output, end, admitted.new_bytes, job.len() as u32, refusal);
+    let written = frame_text::last_frame(
+        output,
+        end,
+        admitted.new_bytes,
+        job.len() as u32,
+        refusal,
+    );
     Listed { refusal, written }
 }

@@ -1,4 +1,4 @@
 pub mod Recipes
 pub mod LocatedChunks
 pub mod ChunksWritten
-pub mod RebuildGround
+pub mod grounds

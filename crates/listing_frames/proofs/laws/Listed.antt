@@ -22,11 +22,12 @@ use Rattle.store.specs.Opening.{fresh, opened}
 use Rattle.store.proofs.laws.grounds.Fitting.{fresh-fits}
 use Rattle.admission.specs.Admission.{Admission, admitted, recipeOf}
 use Rattle.admission.proofs.laws.Admissions.{adds}
-use Rattle.listing_frames.specs.Frames.{window, longestJob, frameBytes, chunkFrames, lastFrame, refusedFrame, outcome, admittedFrames, listing, refusalOf, written, listed}
+use Rattle.frame_text.specs.Frame.{frameBytes, lastFrame}
+use Rattle.listing_frames.specs.Frames.{window, longestJob, chunkFrames, refusedFrame, outcome, admittedFrames, listing, refusalOf, written, listed}
 use Rattle.listing_frames.specs.internal.Counted.{countedFrames}
-use Rattle.listing_frames.proofs.laws.Stores.{sets-then}
-use Rattle.listing_frames.proofs.laws.Walking.{frame-length, counted-length}
-use Rattle.listing_frames.proofs.laws.NewChunks.{counted-first, counted-front}
+use Rattle.frame_text.proofs.laws.Stores.{sets-then, frame-length}
+use Rattle.listing_frames.proofs.laws.chunks.Walking.{counted-length}
+use Rattle.listing_frames.proofs.laws.chunks.NewChunks.{counted-first, counted-front}
 
 -- the frames that the code writes for an accepted job
 abbrev pub codedFrames : List ℕ → Admission → List ℕ

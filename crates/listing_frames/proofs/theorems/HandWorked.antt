@@ -13,7 +13,8 @@ use Rattle.admission.specs.Admission.{jobAllowed, admissionGround, admitted}
 use Rattle.store.specs.Memory.{chunksFrom}
 use Rattle.store.specs.Contents.{same, number, has}
 use Rattle.chunk_admission.specs.Snapshot.{chunkGround, afterChunk, chunksOutcome}
-use Rattle.listing_frames.specs.Frames.{hex, frame, chunkFrames, refusedFrame, listing}
+use Rattle.frame_text.specs.Frame.{hex, frame}
+use Rattle.listing_frames.specs.Frames.{chunkFrames, refusedFrame, listing}
 
 -- 0000000000000000000501
 abbrev pub first : List ℕ

@@ -4,7 +4,7 @@ use mathlib.Core.Bool.{cond}
 use mathlib.Core.List.{List, [], _∷_, _++_}
 use lib.Dec.{eqb}
 use lib.ListN.{length}
-use Rattle.listing_frames.specs.Frames.{frame}
+use Rattle.frame_text.specs.Frame.{frame}
 
 -- 1 where a chunk is new
 abbrev pub mark : ℕ → ℕ → ℕ

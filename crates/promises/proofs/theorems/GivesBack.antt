@@ -23,7 +23,7 @@ use Rattle.promises.proofs.laws.Events.{grows, adds-at, named-at, start
 use Rattle.admission.proofs.laws.Lengths.{as-long, within-limits, memory-allowed-same}
 use Rattle.rebuild.specs.Rebuilding.{rebuiltBytes, rebuildGround, rebuilt}
 use Rattle.promises.specs.GivesBack.{GivesBack}
-use Rattle.rebuild.proofs.laws.RebuildGround.{all-pass}
+use Rattle.rebuild.proofs.laws.grounds.RebuildGround.{all-pass}
 use Rattle.store.specs.Limits.{recipeLimit}
 
 module _ (pool directory : List ℕ) (n : ℕ) where

@@ -6,7 +6,7 @@ use borrow.Author.Tests.{not-true, not-false}
 use lib.ListN.{length}
 use Rattle.refusal.specs.Number.{accepted}
 use Rattle.rebuild.specs.Rebuilding.{rebuiltBytes, rebuildGround, rebuilt}
-use Rattle.rebuild.proofs.laws.RebuildGround.{rebuilding-located, output-long}
+use Rattle.rebuild.proofs.laws.grounds.RebuildGround.{rebuilding-located, output-long}
 use Rattle.rebuild.proofs.rebuild.Statement.{statement}
 use Rattle.rebuild.proofs.rebuild.Tie as tie
 

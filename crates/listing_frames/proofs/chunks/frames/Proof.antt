@@ -4,8 +4,8 @@ use native.Mathlib.Omega.{arith}
 use mathlib.Core.Path.{ap}
 use borrow.Author.Needs.{needs}
 use lib.ListN.{length, getD}
-use Rattle.listing_frames.specs.Frames.{frameBytes}
-use Rattle.listing_frames.proofs.laws.Walking.{Walking, Found, mark-most, walks-out, finds, walks-on, walks-all, walks-ends}
+use Rattle.frame_text.specs.Frame.{frameBytes}
+use Rattle.listing_frames.proofs.laws.chunks.Walking.{Walking, Found, mark-most, walks-out, finds, walks-on, walks-all, walks-ends}
 use Rattle.listing_frames.proofs.chunks.frames.Statement.{statement}
 use Rattle.listing_frames.proofs.chunks.frames.Tie as tie
 

@@ -9,7 +9,7 @@ use Rattle.refusal.specs.Grounds.{first}
 use Rattle.store.specs.Grounds.{recipeAllowed, numberGround, storeGround}
 use Rattle.store.specs.Limits.{recipeLimit}
 use Rattle.rebuild.specs.Rebuilding.{outputGround, rebuildGround}
-use Rattle.rebuild.proofs.laws.RebuildGround.{no-length, after-recipe, pool-small, numbers-located}
+use Rattle.rebuild.proofs.laws.grounds.RebuildGround.{no-length, after-recipe, pool-small, numbers-located}
 use Rattle.rebuild.proofs.grounds.rebuild_ground.Statement.{statement}
 use Rattle.rebuild.proofs.grounds.rebuild_ground.Tie as tie
 

@@ -1,9 +1,9 @@
-// The text of frames.
+// The text of one frame. The layer below the listing.
 ghost use mathlib.Core.Path.{_≡_};
 ghost use Prim.Native.Nat.{_+_, _≤_, _<_};
 ghost use lib.ListN.{length};
 ghost use lib.Seq.{sets};
-ghost use Rattle.listing_frames.specs.Frames.{frameBytes, digit, hex, frame, lastFrame};
+ghost use Rattle.frame_text.specs.Frame.{frameBytes, digit, hex, frame, lastFrame};
 use refusal::Refusal;
 use store::ChunkNumber;
 use store::JobPosition;

@@ -5,7 +5,7 @@ use mathlib.Core.Path.{_≡_, refl, ap, sym, _∙_}
 use mathlib.Core.List.{List, [], _∷_, _++_}
 use lib.ListN.{length, set, length-append, length-set}
 use lib.Seq.{sets, set-comm}
-use Rattle.listing_frames.specs.Frames.{digit, hex, frame}
+use Rattle.frame_text.specs.Frame.{digit, hex, frameBytes, frame}
 
 -- bytes are stored behind n others
 pub sets-then : (xs ys l : List ℕ) (at n next : ℕ) → length xs ≡ n → at + n ≡ next
@@ -71,3 +71,8 @@ frame-stores l at number position size mark =
     ∙ sets-then (hex 8 position) _ _ (at + 4) 8 (at + 12) (hex-length 8 position) (omega arith)
     ∙ sets-then (hex 8 size) _ _ (at + 12) 8 (at + 20) (hex-length 8 size) (omega arith)
     ∙ sets-then (hex 2 mark) _ _ (at + 20) 2 (at + 22) (hex-length 2 mark) (omega arith))
+
+-- "22 upper-case hexadecimal digits and a line feed"
+pub frame-length : (number position size mark : ℕ) → length (frame number position size mark) ≡ frameBytes
+unfolding frame
+frame-length number position size mark = simp (length-append, hex-length)

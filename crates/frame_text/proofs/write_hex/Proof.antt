@@ -1,9 +1,9 @@
--- `listing_frames::text::write_hex` meets its contract: each iteration writes one digit.
+-- `frame_text::write_hex` meets its contract: each iteration writes one digit.
 use native.Mathlib.Omega.{arith}
 use mathlib.Core.Path.{refl}
-use Rattle.listing_frames.proofs.laws.Stores.{Writing, writes-one, writes-all}
-use Rattle.listing_frames.proofs.text.write_hex.Statement.{statement}
-use Rattle.listing_frames.proofs.text.write_hex.Tie as tie
+use Rattle.frame_text.proofs.laws.Stores.{Writing, writes-one, writes-all}
+use Rattle.frame_text.proofs.write_hex.Statement.{statement}
+use Rattle.frame_text.proofs.write_hex.Tie as tie
 
 abbrev Inv-loop : tie.InvT-loop
 Inv-loop output₀ at width value left₀ rest₀ output left rest = Writing output₀ at width value output left rest

@@ -1,8 +1,8 @@
--- `listing_frames::text::digit` meets its contract.
+-- `frame_text::digit` meets its contract.
 use borrow.Author.Needs.{needs}
 use borrow.Author.Tests.{lt-ltb, le-ltb}
-use Rattle.listing_frames.proofs.text.digit.Statement.{statement}
-use Rattle.listing_frames.proofs.text.digit.Tie as tie
+use Rattle.frame_text.proofs.digit.Statement.{statement}
+use Rattle.frame_text.proofs.digit.Tie as tie
 
 cast-result : tie.Need-cast-result
 cast-result c = search needs

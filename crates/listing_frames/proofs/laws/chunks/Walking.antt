@@ -13,14 +13,10 @@ use Rattle.chunker.specs.Scanner.{windowAllowed}
 use Rattle.chunker.specs.Answers.{fed}
 use Rattle.chunker.specs.Chunks.{chunks}
 use Rattle.chunker.proofs.laws.NextChunk.{NextChunk, no-chunks, next-of-rest}
-use Rattle.listing_frames.specs.Frames.{window, frameBytes, frame}
+use Rattle.frame_text.specs.Frame.{frameBytes, frame}
+use Rattle.listing_frames.specs.Frames.{window}
 use Rattle.listing_frames.specs.internal.Counted.{mark, countedFrames}
-use Rattle.listing_frames.proofs.laws.Stores.{hex-length, sets-then}
-
--- "22 upper-case hexadecimal digits and a line feed"
-pub frame-length : (number position size mark : ℕ) → length (frame number position size mark) ≡ frameBytes
-unfolding frame
-frame-length number position size mark = simp (length-append, hex-length)
+use Rattle.frame_text.proofs.laws.Stores.{sets-then, frame-length}
 
 -- as many frames as chunks
 pub counted-length : (next position : ℕ) (cs : List (List ℕ)) (ns : List ℕ) → length cs ≤ length ns

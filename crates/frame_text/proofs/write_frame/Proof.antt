@@ -1,11 +1,11 @@
--- `listing_frames::text::write_frame` meets its contract.
+-- `frame_text::write_frame` meets its contract.
 use mathlib.Core.Path.{refl, ap, _∙_}
 use lib.ListN.{length}
 use lib.Seq.{length-sets}
-use Rattle.listing_frames.proofs.laws.Stores.{frame-stores}
+use Rattle.frame_text.proofs.laws.Stores.{frame-stores}
 use borrow.Author.Needs.{needs}
-use Rattle.listing_frames.proofs.text.write_frame.Statement.{statement}
-use Rattle.listing_frames.proofs.text.write_frame.Tie as tie
+use Rattle.frame_text.proofs.write_frame.Statement.{statement}
+use Rattle.frame_text.proofs.write_frame.Tie as tie
 
 write-hex-requires : tie.Need-write-hex-requires
 write-hex-requires c κs = search needs

@@ -11,7 +11,8 @@ use Rattle.store.specs.Contents.{number, has, gain, grown}
 use Rattle.store.proofs.laws.contents.Growth.{first-among, grown-has, number-grown}
 use Rattle.store.proofs.laws.contents.Numbering.{number-below, number-added}
 use Rattle.store.proofs.laws.contents.Members.{SameMembers, gain-members}
-use Rattle.listing_frames.specs.Frames.{frame, chunkFrames}
+use Rattle.frame_text.specs.Frame.{frame}
+use Rattle.listing_frames.specs.Frames.{chunkFrames}
 use Rattle.listing_frames.specs.internal.Counted.{mark, countedFrames}
 
 -- the mark of one chunk, and the count after it

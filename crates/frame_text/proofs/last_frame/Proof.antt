@@ -1,7 +1,7 @@
--- `listing_frames::text::last_frame` meets its contract.
+-- `frame_text::last_frame` meets its contract.
 use borrow.Author.Needs.{needs}
-use Rattle.listing_frames.proofs.text.last_frame.Statement.{statement}
-use Rattle.listing_frames.proofs.text.last_frame.Tie as tie
+use Rattle.frame_text.proofs.last_frame.Statement.{statement}
+use Rattle.frame_text.proofs.last_frame.Tie as tie
 
 number-requires : tie.Need-number-requires
 number-requires c κs = search needs

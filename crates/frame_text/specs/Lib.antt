@@ -1,0 +1,2 @@
+-- The text of one frame.
+pub mod Frame
