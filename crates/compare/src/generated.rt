@@ -15,9 +15,9 @@ fn compared(tally: Tally, window: u32, number: u32) -> Tally {
     let length = random::up_to(seed, 8191 >> (number % 7), 8192);
     random::fill(&mut room[..length], number % 6, window / 2, seed);
     let job = &room[..length];
-    let due = method::chunks(job, window as usize, &mut expected);
-    let difference = feeding::compared(job, window, seed, 3, &expected, due, &mut found);
-    tally::counted(tally, due.cuts, difference)
+    method::chunks(job, window as usize, &mut expected);
+    let difference = feeding::compared(job, window, seed, 3, &expected, &mut found);
+    tally::counted(tally, expected[0], difference)
 }
 
 // Compares the longest chunks of a window and 400 jobs, and prints their line.

@@ -4,7 +4,6 @@
 ghost use Prim.Native.Nat.{_+_, _≤_};
 ghost use lib.ListN.{length};
 use crate::list;
-use difference::Chunks;
 
 // Whether the place is a maximum point: its byte is larger than every byte of the chunk before it,
 // and not smaller than any of the `window` bytes after it.
@@ -46,20 +45,17 @@ fn cut_length(rest: &[u8], window: usize) -> usize
     0
 }
 
-// Puts the lengths of a job's cut chunks into `lengths`.
-pub fn chunks(job: &[u8], window: usize, lengths: &mut [usize]) -> Chunks {
+// Lists the chunks of a job.
+pub fn chunks(job: &[u8], window: usize, list: &mut [usize]) {
     let mut start = 0;
     let mut cuts = 0;
     loop {
         let cut = cut_length(&job[start..], window);
         if cut == 0 {
-            return Chunks {
-                cuts,
-                last: job.len() - start,
-                right: true,
-            };
+            list::end(list, cuts, job.len() - start);
+            return;
         }
-        cuts = list::add(lengths, cuts, cut);
+        cuts = list::add(list, cuts, cut);
         start += cut;
     }
 }

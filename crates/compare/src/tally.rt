@@ -5,32 +5,32 @@ ghost use Rattle.difference.specs.Difference.{differences};
 use difference::Difference;
 use libc::STDOUT_FILENO;
 
-// The comparisons, the cuts compared, and the comparisons with a difference.
+// The comparisons, the lengths compared, and the comparisons with a difference.
 pub struct Tally {
     pub comparisons: u64,
-    pub cuts: u64,
+    pub lengths: u64,
     pub differences: u64,
 }
 
 pub const EMPTY: Tally = Tally {
     comparisons: 0,
-    cuts: 0,
+    lengths: 0,
     differences: 0,
 };
 
 // One comparison more. A difference is printed above the line of its group.
-pub fn counted(tally: Tally, cuts: usize, difference: Difference) -> Tally
+pub fn counted(tally: Tally, lengths: usize, difference: Difference) -> Tally
     ensures { λ r. ⌜ r .differences ≡ (tally .differences + differences difference) % 2 ^ 64 ⌝ }
 {
     let mut one = 0;
-    if let Difference::At(chunk) = difference {
+    if let Difference::At(place) = difference {
         one = 1;
-        print(b"a difference at chunk ", chunk as u64);
+        print(b"a difference at place ", place as u64);
         io::write_all(STDOUT_FILENO, b" in\n");
     }
     Tally {
         comparisons: std::num::wrapping_add_u64(tally.comparisons, 1),
-        cuts: std::num::wrapping_add_u64(tally.cuts, cuts as u64),
+        lengths: std::num::wrapping_add_u64(tally.lengths, lengths as u64),
         differences: std::num::wrapping_add_u64(tally.differences, one),
     }
 }
@@ -44,7 +44,7 @@ pub fn print(text: &[u8], number: u64) {
 // Prints the counts, after what names the group.
 pub fn print_counts(tally: Tally) {
     print(b": comparisons ", tally.comparisons);
-    print(b", cuts ", tally.cuts);
+    print(b", lengths ", tally.lengths);
     print(b", differences ", tally.differences);
     io::write_all(STDOUT_FILENO, b"\n");
 }

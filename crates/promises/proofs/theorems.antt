@@ -3,6 +3,7 @@ pub mod NumbersStay
 pub mod GivesBack
 pub mod Promise
 pub mod StarredJobs
+pub mod Windows
 pub mod Witnesses
 pub mod EqualTail
 pub mod Calls

@@ -1,17 +1,16 @@
 -- No difference is told exactly where two lists of chunks are the same.
-use Prim.Native.Nat.{ℕ, zero, suc, _≤_}
-use mathlib.Core.Path.{_≡_, refl, ap, _∙_}
-use mathlib.Core.Bool.{Bool, true, false, cond, _&&_}
+use Prim.Native.Nat.{ℕ, suc, _<_}
+use mathlib.Core.Path.{_≡_, refl, ap, sym, _∙_}
+use mathlib.Core.Bool.{Bool, true, false, cond, _&&_, and-eq-true-iff}
 use mathlib.Core.List.{List, [], _∷_}
 use native.Mathlib.Omega.{arith}
-use borrow.Author.Tests.{eq-eqb, eqb-true}
-use lib.Dec.{eqb}
-use lib.ListN.{length, take}
-use Rattle.difference.specs.declared.Chunks.{Chunks}
+use borrow.Author.Tests.{eq-eqb, eqb-true, ltb-true, lt-ltb}
+use lib.Dec.{eqb, ltb}
+use lib.ListN.{length, getD, take}
+use lib.Seq.{getD-take, length-take-le}
 use Rattle.difference.specs.declared.Difference.{Difference}
 use Rattle.difference.specs.declared.Difference.the-variants.{Nowhere, At}
-use Rattle.difference.specs.Difference.{atEnd, fromChunk, difference, Same}
-use Rattle.difference.proofs.laws.Comparing.{all-right}
+use Rattle.difference.specs.Difference.{count, fromPlace, difference, Same}
 
 pub never : {i : ℕ} → At i ≡ Nowhere → ⊥
 never h = let z : _≡_ {A = ℕ} 0 1 = cc in omega arith
@@ -21,77 +20,54 @@ passed : (t : Bool) (d : Difference) (i : ℕ) → cond t d (At i) ≡ Nowhere �
 passed true d i h = (refl, h)
 passed false d i h = absurd (never h)
 
-all-true : (t u v : Bool) → t && u && v ≡ true → (t ≡ true) × (u ≡ true) × (v ≡ true)
-all-true true true true h = (refl, refl, refl)
-all-true true true false h = absurd (let z : _≡_ {A = ℕ} 0 1 = cc in omega arith)
-all-true true false true h = absurd (let z : _≡_ {A = ℕ} 0 1 = cc in omega arith)
-all-true true false false h = absurd (let z : _≡_ {A = ℕ} 0 1 = cc in omega arith)
-all-true false u v h = absurd (let z : _≡_ {A = ℕ} 0 1 = cc in omega arith)
-
--- what lists have in common from which no difference is told
-record Equal (end : Difference) (m : ℕ) (xs : List ℕ) (n : ℕ) (ys : List ℕ) : Type 0 where
-  cuts : m ≡ n
-  first : m ≤ length xs
-  second : n ≤ length ys
-  lengths : take m xs ≡ take n ys
-  rest : end ≡ Nowhere
-
-told : (i : ℕ) (end : Difference) (m : ℕ) (xs : List ℕ) (n : ℕ) (ys : List ℕ) → fromChunk i end m xs n ys ≡ Nowhere
-    → Equal end m xs n ys
-unfolding fromChunk
-told i end zero xs zero ys h = record { cuts = refl; first = omega arith; second = omega arith; lengths = refl; rest = h }
-told i end zero xs (suc n) ys h = absurd (never h)
-told i end (suc m) xs zero ys h = absurd (never h)
-told i end (suc m) [] (suc n) ys h = absurd (never h)
-told i end (suc m) (x ∷ xs) (suc n) [] h = absurd (never h)
-told i end (suc m) (x ∷ xs) (suc n) (y ∷ ys) h =
+-- nowhere: ys begins with xs
+told : (i : ℕ) (xs ys : List ℕ) → fromPlace i xs ys ≡ Nowhere → take (length xs) ys ≡ xs
+unfolding fromPlace
+told i [] ys h = refl
+told i (x ∷ xs) [] h = absurd (never h)
+told i (x ∷ xs) (y ∷ ys) h =
     let p = passed (eqb x y) _ _ h in
     let e : x ≡ y = eqb-true x y (p .0) in
-    let r = told (suc i) end m xs n ys (p .1) in
-    record {
-      cuts = ap suc (r .cuts);
-      first = omega (arith, r .first);
-      second = omega (arith, r .second);
-      lengths = cc (e, r .lengths);
-      rest = r .rest;
-    }
+    cc (e, told (suc i) xs ys (p .1))
 
-untold : (i : ℕ) (end : Difference) (m : ℕ) (xs : List ℕ) (n : ℕ) (ys : List ℕ) → m ≡ n → m ≤ length xs → n ≤ length ys
-    → take m xs ≡ take n ys → fromChunk i end m xs n ys ≡ end
-unfolding fromChunk
-untold i end zero xs zero ys e h k l = refl
-untold i end zero xs (suc n) ys e h k l = absurd (omega arith)
-untold i end (suc m) xs zero ys e h k l = absurd (omega arith)
-untold i end (suc m) [] (suc n) ys e h k l = absurd (omega arith)
-untold i end (suc m) (x ∷ xs) (suc n) [] e h k l = absurd (omega arith)
-untold i end (suc m) (x ∷ xs) (suc n) (y ∷ ys) e h k l =
+-- and back
+untold : (i : ℕ) (xs ys : List ℕ) → take (length xs) ys ≡ xs → fromPlace i xs ys ≡ Nowhere
+unfolding fromPlace
+untold i [] ys e = refl
+untold i (x ∷ xs) [] e = absurd (let z : _≡_ {A = ℕ} 0 1 = cc in omega arith)
+untold i (x ∷ xs) (y ∷ ys) e =
     let head : x ≡ y = cc in
-    let tail : take m xs ≡ take n ys = cc in
-    rw (eq-eqb x y head) (untold (suc i) end m xs n ys (omega arith) (omega arith) (omega arith) tail)
+    let tail : take (length xs) ys ≡ xs = cc in
+    rw (eq-eqb x y head) (untold (suc i) xs ys tail)
 
-at-end : (i : ℕ) (a b : Chunks) → atEnd i a b ≡ Nowhere → (a .last ≡ b .last) × (a .right ≡ true) × (b .right ≡ true)
-unfolding atEnd
-at-end i a b h =
-    let e = all-true (eqb (a .last) (b .last)) (a .right) (b .right) (passed _ _ _ h .0) in
-    (eqb-true (a .last) (b .last) (e .0), e .1, e .2)
+-- lists that begin alike have the same count
+heads : (n m : ℕ) (xs ys : List ℕ) → take (suc n) xs ≡ take (suc m) ys → count xs ≡ count ys
+heads n m xs ys e =
+    sym (getD-take (suc n) xs 0 0 (omega arith)) ∙ (ap (λ l. getD l 0 0) e ∙ getD-take (suc m) ys 0 0 (omega arith))
+
+-- what is told where no difference is
+same-told : (xs ys : List ℕ) → difference xs ys ≡ Nowhere → Same xs ys
+unfolding difference
+same-told xs ys h =
+    let p = passed (ltb (count xs) (length xs) && ltb (count xs) (length ys)) _ 0 h in
+    let held = and-eq-true-iff (ltb (count xs) (length xs)) (ltb (count xs) (length ys)) .0 (p .0) in
+    let whole : count xs < length xs = ltb-true _ _ (held .0) in
+    let other : count xs < length ys = ltb-true _ _ (held .1) in
+    let long : length (take (suc (count xs)) xs) ≡ suc (count xs) = length-take-le (suc (count xs)) xs whole in
+    let begin : take (suc (count xs)) ys ≡ take (suc (count xs)) xs = rw long at (told 0 _ ys (p .1)) in
+    let same : count ys ≡ count xs = heads (count xs) (count xs) ys xs begin in
+    record { first = whole; second = rw same other; list = rw same (sym begin) }
+
+-- and where it is not
+none-told : (xs ys : List ℕ) → Same xs ys → difference xs ys ≡ Nowhere
+unfolding difference
+none-told xs ys s =
+    let same : count xs ≡ count ys = heads (count xs) (count ys) xs ys (s .list) in
+    let other : count xs < length ys = omega (arith, s .second) in
+    let long : length (take (suc (count xs)) xs) ≡ suc (count xs) = length-take-le (suc (count xs)) xs (s .first) in
+    rw (lt-ltb _ _ (s .first), lt-ltb _ _ other)
+    (untold 0 _ ys (rw long (ap (λ n. take (suc n) ys) same ∙ sym (s .list))))
 
 -- No difference is told if and only if the lists are the same.
-pub no-difference : (xs : List ℕ) (a : Chunks) (ys : List ℕ) (b : Chunks)
-    → (difference xs a ys b ≡ Nowhere → Same xs a ys b) × (Same xs a ys b → difference xs a ys b ≡ Nowhere)
-unfolding difference
-no-difference xs a ys b = (
-  λ h.
-      let t = told 0 (atEnd (a .cuts) a b) (a .cuts) xs (b .cuts) ys h in
-      let e = at-end (a .cuts) a b (t .rest) in
-      record {
-        cuts = t .cuts;
-        first = t .first;
-        second = t .second;
-        lengths = t .lengths;
-        last = e .0;
-        right = (e .1, e .2);
-      },
-  λ s.
-      untold 0 (atEnd (a .cuts) a b) (a .cuts) xs (b .cuts) ys (s .cuts) (s .first) (s .second) (s .lengths)
-      ∙ all-right (a .cuts) a b (s .last) (s .right .0) (s .right .1),
-)
+pub no-difference : (xs ys : List ℕ) → (difference xs ys ≡ Nowhere → Same xs ys) × (Same xs ys → difference xs ys ≡ Nowhere)
+no-difference xs ys = (same-told xs ys, none-told xs ys)

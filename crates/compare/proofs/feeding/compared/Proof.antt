@@ -3,17 +3,17 @@ use Prim.Native.Nat.{_≤_, _-_}
 use mathlib.Core.Path.{_≡_, sym, _∙_}
 use native.Mathlib.Omega.{arith}
 use lib.ListN.{length}
-use Rattle.difference.specs.Difference.{Told}
+use Rattle.difference.specs.Difference.{Same}
 use Rattle.difference.proofs.theorems.NoDifference.{never, no-difference}
 use borrow.Author.Needs.{needs}
 use Rattle.compare.proofs.feeding.compared.Statement.{statement}
 use Rattle.compare.proofs.feeding.compared.Tie as tie
 
 abbrev Inv-loop : tie.InvT-loop
-Inv-loop job window seed splittings expected due found₀ random₀ turn₀ found random turn = (turn ≤ splittings) × (length found ≡ length found₀) × (1 ≤ turn → Told expected due found)
+Inv-loop job window seed splittings expected found₀ random₀ turn₀ found random turn = (turn ≤ splittings) × (length found ≡ length found₀) × (1 ≤ turn → Same expected found)
 
 abbrev μ-loop : tie.MeasureT-loop
-μ-loop job window seed splittings expected due found₀ random₀ turn₀ found random turn = splittings - turn
+μ-loop job window seed splittings expected found₀ random₀ turn₀ found random turn = splittings - turn
 
 loop-holds : tie.Need-loop-holds Inv-loop μ-loop
 loop-holds c = (search needs, search needs, λ h. absurd (omega arith))
@@ -27,8 +27,8 @@ chunks-requires c κs = search needs
 first-difference-requires : tie.Need-first-difference-requires Inv-loop μ-loop
 first-difference-requires c κs = search needs
 
-enum-known-chunk : tie.Need-enum-known-chunk Inv-loop μ-loop
-enum-known-chunk c = search needs
+enum-known-place : tie.Need-enum-known-place Inv-loop μ-loop
+enum-known-place c = search needs
 
 same-length : tie.Need-same-length Inv-loop μ-loop
 same-length c = search needs
@@ -46,7 +46,7 @@ loop-less : tie.Need-loop-less Inv-loop μ-loop
 loop-less c = search needs
 
 loop-again : tie.Need-loop-again Inv-loop μ-loop
-loop-again c = (search needs, search needs, λ h. (c .before .before .before .before .before .before .chunks .result, no-difference _ _ _ _ .0 (sym (c .before .before .first-difference .ensures) ∙ c .enum-told .given .1)))
+loop-again c = (search needs, search needs, λ h. no-difference _ _ .0 (sym (c .before .before .first-difference .ensures) ∙ c .enum-told .given .1))
 
 same-length-2 : tie.Need-same-length-2 Inv-loop μ-loop
 same-length-2 c = search needs
@@ -64,7 +64,7 @@ compared-spec =
     next-requires
     chunks-requires
     first-difference-requires
-    enum-known-chunk
+    enum-known-place
     same-length
     returns
     enum-told

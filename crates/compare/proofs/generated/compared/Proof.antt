@@ -47,6 +47,9 @@ slice-aggregate-compared-2 c = search needs
 compared-requires : tie.Need-compared-requires
 compared-requires c κs = search needs
 
+array-read-counted : tie.Need-array-read-counted
+array-read-counted c = search needs
+
 counted-requires : tie.Need-counted-requires
 counted-requires c κs = search needs
 
@@ -71,5 +74,6 @@ compared-spec =
     slice-aggregate-compared
     slice-aggregate-compared-2
     compared-requires
+    array-read-counted
     counted-requires
     returns)

@@ -7,10 +7,10 @@ use Rattle.compare.proofs.method.chunks.Statement.{statement}
 use Rattle.compare.proofs.method.chunks.Tie as tie
 
 abbrev Inv-loop : tie.InvT-loop
-Inv-loop job window lengths₀ start₀ cuts₀ lengths start cuts = (start ≤ length job) × (length lengths ≡ length lengths₀)
+Inv-loop job window list₀ start₀ cuts₀ list start cuts = (start ≤ length job) × (length list ≡ length list₀)
 
 abbrev μ-loop : tie.MeasureT-loop
-μ-loop job window lengths₀ start₀ cuts₀ lengths start cuts = length job - start
+μ-loop job window list₀ start₀ cuts₀ list start cuts = length job - start
 
 loop-holds : tie.Need-loop-holds Inv-loop μ-loop
 loop-holds c = search needs
@@ -27,8 +27,11 @@ part-cut-length-end c = search needs
 cut-length-requires : tie.Need-cut-length-requires Inv-loop μ-loop
 cut-length-requires c κs = search needs
 
-sub-t13 : tie.Need-sub-t13 Inv-loop μ-loop
-sub-t13 c = search needs
+sub-end : tie.Need-sub-end Inv-loop μ-loop
+sub-end c = search needs
+
+end-requires : tie.Need-end-requires Inv-loop μ-loop
+end-requires c κs = search needs
 
 same-length : tie.Need-same-length Inv-loop μ-loop
 same-length c = search needs
@@ -59,7 +62,8 @@ chunks-spec =
     part-cut-length-start
     part-cut-length-end
     cut-length-requires
-    sub-t13
+    sub-end
+    end-requires
     same-length
     returns
     add-requires
