@@ -8,13 +8,13 @@ export RT_JOBS ?= 2
 help:
 	@echo "make help            this list"
 	@echo "make test            all proofs from scratch, the must-fail edits and all other tests"
-	@echo "                     (about 15 minutes on two cores)"
+	@echo "                     (about 11 minutes on two cores)"
 	@echo "make list JOB=FILE   the frames of a job"
 	@echo "                     (about 2 minutes the first time, to prove and build the program; then at once)"
 	@echo "make example         a label and its revision, admitted and rebuilt from C"
 	@echo "                     (about 2 minutes the first time, to prove and build the library; then at once)"
 	@echo "make bench           the library measured beside plain Rust"
-	@echo "                     (about 5 minutes, and 2 more where the library is not built yet)"
+	@echo "                     (about 3 minutes, and 2 more where the library is not built yet)"
 
 test:
 	@tests/run

@@ -1,2 +1,2 @@
--- laws/Untouched has the numbers of a fresh scanner.
+-- laws/scanning/Untouched has the numbers of a fresh scanner.
 pub mod laws

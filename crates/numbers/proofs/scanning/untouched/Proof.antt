@@ -1,7 +1,7 @@
 -- `numbers::scanning::untouched` meets its contract.
 use borrow.Author.Needs.{needs}
 use borrow.Author.Tests.{eqb-true}
-use Rattle.numbers.proofs.laws.Untouched.{no-byte-since}
+use Rattle.numbers.proofs.laws.scanning.Untouched.{no-byte-since}
 use Rattle.numbers.proofs.scanning.untouched.Statement.{statement}
 use Rattle.numbers.proofs.scanning.untouched.Tie as tie
 
