@@ -1,6 +1,5 @@
 -- `difference::first_difference` meets its contract. Each turn compares one place.
 use Prim.Native.Nat.{suc, _-_}
-use native.Mathlib.Omega.{arith}
 use Rattle.difference.specs.Difference.{count}
 use Rattle.difference.proofs.laws.Comparing.{Comparing, first-short, second-short, begins, differs, goes-on, ends}
 use borrow.Author.Needs.{needs}

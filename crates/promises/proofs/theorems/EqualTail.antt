@@ -18,9 +18,9 @@ use Rattle.chunker.proofs.theorems.PublishedMethod.{divides}
 
 module _ (a n p : ℕ) where
   -- a place from a + n on, counted after place a
-  those-member : (ps : List ℕ) → List·Memᴰ p (map (λ q. q - a) (filter (leb (a + n)) ps)) → List·Memᴰ (p + a) ps
-  those-member [] m = absurd (List·Memᴰ·not-nil m)
-  those-member (q ∷ ps) m = step (leb (a + n) q) refl (those-member ps) m
+  filter-member : (ps : List ℕ) → List·Memᴰ p (map (λ q. q - a) (filter (leb (a + n)) ps)) → List·Memᴰ (p + a) ps
+  filter-member [] m = absurd (List·Memᴰ·not-nil m)
+  filter-member (q ∷ ps) m = step (leb (a + n) q) refl (filter-member ps) m
     where
       step : (t : Bool) → leb (a + n) q ≡ t
           → (List·Memᴰ p (map (λ q. q - a) (filter (leb (a + n)) ps)) → List·Memᴰ (p + a) ps)
@@ -35,7 +35,7 @@ module _ (a n p : ℕ) where
 pub ending-member : (w : ℕ) (x e : List ℕ) (n p : ℕ) → List·Memᴰ p (endingCuts w x e n)
     → List·Memᴰ (p + length x) (cuts w (x ++ e))
 unfolding endingCuts
-ending-member w x e n p m = those-member (length x) n p (cuts w (x ++ e)) m
+ending-member w x e n p m = filter-member (length x) n p (cuts w (x ++ e)) m
 
 -- what is said of n bytes, each of which is b
 module _ (b : ℕ) where

@@ -1,12 +1,12 @@
 -- Demand 2 of a C program that feeds a job in parts: the cuts are those of the published method for every splitting.
-use Prim.Native.Nat.{ℕ, _≤_, _<_}
+use Prim.Native.Nat.{ℕ, _<_}
 use native.Mathlib.Omega.{arith}
 use mathlib.Core.Path.{_≡_, refl, ap, sym, _∙_}
 use mathlib.Core.Bool.{Bool, true, false, cond, _&&_, and-eq-true-iff, false≢true}
 use mathlib.Core.List.{List, [], _∷_}
 use lib.Dec.{leb}
 use lib.ListN.{length, getD, drop}
-use borrow.Author.Tests.{leb-true, eq-eqb, le-leb}
+use borrow.Author.Tests.{eq-eqb, le-leb}
 use Rattle.refusal.specs.Number.{numberOf, accepted}
 use Rattle.refusal.specs.Grounds.{unless}
 use Rattle.refusal.specs.declared.Refusal.the-variants.{Accepted, Window, Unsound}
@@ -27,29 +27,20 @@ use Rattle.numbers.specs.Scanning.{numbersOf, scannerOf, told}
 use Rattle.hirunvel.specs.Scanning.{numbersGround, scannerOpened, scannerFed, scannerFinished}
 use Rattle.promises.specs.FeedCalls.{FeedCalls, cutting, passing, finishing}
 
--- four numbers whose ground is none are those of a scanner, of which none holds either
-record Taken (n : List ℕ) : Type 0 where
-  byte : getD n 3 0 ≤ 255
-  ground : numbersGround n ≡ scannerGround (scannerOf n)
-  accepted : scannerGround (scannerOf n) ≡ Accepted
-
-numbers-taken : (n : List ℕ) → accepted (numbersGround n) ≡ true → Taken n
+-- where no ground holds of four numbers, none holds of their scanner
+scanner-accepted : (n : List ℕ) → accepted (numbersGround n) ≡ true → scannerGround (scannerOf n) ≡ Accepted
 unfolding numbersGround scannerGround
-numbers-taken n h =
+scanner-accepted n h =
     let none = none-holds
     (windowGround (getD n 0 0) ∷ unless (leb (getD n 3 0) 255 && sound (scannerOf n)) Unsound ∷ [])
     h in
-    let tests = and-eq-true-iff _ _ .0 (passed (leb (getD n 3 0) 255 && sound (scannerOf n)) Unsound refl (none .1 .0)) in
+    let both = passed (leb (getD n 3 0) 255 && sound (scannerOf n)) Unsound refl (none .1 .0) in
+    let tests = and-eq-true-iff (leb (getD n 3 0) 255) (sound (scannerOf n)) .0 both in
     let window = passed (windowAllowed (getD n 0 0)) Window refl (none .0) in
-    record {
-      byte = leb-true _ 255 (tests .0);
-      ground = rw (tests .0);
-      accepted = rw (window, tests .1);
-    }
+    rw (window, tests .1)
 
 -- a call of hirunvel_scanner_feed that returns 0 is a feed
 record FeedCall (n part : List ℕ) : Type 0 where
-  taken : Taken n
   refusal : fed (scannerOf n) part .refusal ≡ Accepted
   scanner : scannerFed n part .scanner ≡ numbersOf (fed (scannerOf n) part .scanner)
   tells : scannerFed n part .fed ≡ told (fed (scannerOf n) part)
@@ -60,10 +51,8 @@ feed-called n part r = by-test (accepted (numbersGround n)) refl
   where
     by-test : (t : Bool) → accepted (numbersGround n) ≡ t → FeedCall n part
     by-test true e =
-        let taken = numbers-taken n e in
         record {
-          taken = taken;
-          refusal = fed-ground (scannerOf n) part ∙ taken .accepted;
+          refusal = fed-ground (scannerOf n) part ∙ scanner-accepted n e;
           scanner = rw e;
           tells = rw e;
         }
@@ -89,7 +78,7 @@ finish-called n r = by-test (accepted (numbersGround n)) refl
   where
     by-test : (t : Bool) → accepted (numbersGround n) ≡ t
         → (finished (scannerOf n) .refusal ≡ Accepted) × (scannerFinished n .count ≡ finished (scannerOf n) .count)
-    by-test true e = let taken = numbers-taken n e in (rw (taken .accepted), rw e)
+    by-test true e = (rw (scanner-accepted n e), rw e)
     by-test false e = absurd (false≢true (sym e ∙ eq-eqb (numberOf (numbersGround n)) 0 (rw e at r)))
 
 -- the calls are a feeding
@@ -111,7 +100,7 @@ calls-feeding (finishing {n} {since} r t) =
     let c = finish-called n r in
     splitting.finishing {s = scannerOf n} {since = since} (c .0) (sym (c .1) ∙ t)
 
--- numbers of a scanner whose value is a byte are taken as the scanner is
+-- numbers of a scanner whose value is a byte are accepted as the scanner is
 numbers-of : (s : Scanner) → s .value < 256 → numbersGround (numbersOf s) ≡ scannerGround s
 unfolding numbersGround scannerGround
 numbers-of s h = rw (le-leb (s .value) 255 (omega arith))

@@ -34,7 +34,7 @@ unfolding shown
 returns c =
     let ground = c .before .before .before .look-ground .ensures in
     let h = sym (ap accepted ground) ∙ (sym (c .before .before .accepted .ensures) ∙ not-true _ (c .before .if1 .taken)) in
-    rw (h, zero-add)
+    simp (h, zero-add)
 
 -- no ground holds
 passed : (c : tie.Else1) → let a = c .before .before .before .before .before .args in

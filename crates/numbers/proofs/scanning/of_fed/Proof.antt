@@ -1,7 +1,6 @@
 -- `numbers::scanning::of_fed` meets its contract.
-use mathlib.Core.Path.{_≡_, refl, ap}
+use mathlib.Core.Path.{_≡_, refl}
 use mathlib.Core.Bool.{Bool, true, false, cond}
-use mathlib.Core.List.{[], _∷_}
 use mir.Val.{boolByte}
 use borrow.Author.Needs.{needs}
 use Rattle.numbers.proofs.scanning.of_fed.Statement.{statement}
