@@ -1,2 +1,2 @@
--- laws/BlockSteps and laws/LargeBlocks have what a block does to a scan under way, laws/ScanEnds where it stops.
+-- laws/Peaks has the steps of a whole window, laws/Middle and laws/PartEnds what is passed before and after them.
 pub mod laws

@@ -1,3 +1,3 @@
-pub mod ScanEnds
-pub mod BlockSteps
-pub mod LargeBlocks
+pub mod Peaks
+pub mod Middle
+pub mod PartEnds

@@ -1,23 +1,27 @@
-// The scan of a part by blocks of 16 and 64 bytes, where a window holds one: the layer between the scan byte by
-// byte and the chunker.
+// The scan of a part window by window, where a window holds a block of 8 bytes: the layer between the scan byte by byte and
+// the chunker.
 ghost use mathlib.Core.Path.{_≡_};
 ghost use lib.ListN.{length};
-ghost use Prim.Native.Nat.{_≤_};
+ghost use Prim.Native.Nat.{_+_, min, _≤_, _<_};
 ghost use Rattle.scan.specs.Limits.{windowLimit};
 ghost use Rattle.scan.specs.Scanner.{fresh};
 ghost use Rattle.scan.specs.Scan.{scan};
 ghost use Rattle.scan.specs.internal.Sound.{Sound};
-ghost use Rattle.scan.specs.internal.Run.{Going};
-ghost use Rattle.block_scan.specs.internal.Advance.{Passed, Advanced};
-use blocks::Block;
+ghost use Rattle.scan.specs.internal.Run.{Going, rest};
+ghost use Rattle.block_scan.specs.internal.Advance.{Advanced, Ended};
+
+mod windows;
+
 use refusal::Refusal;
 use scan::Fed;
 use scan::Scanner;
 use scan::run;
 use scan::run::Run;
 
-// Moves a sound scanner on over a part: a block at a time where a window holds one, then byte by
-// byte.
+// The smallest window that is scanned by blocks.
+const SMALLEST: usize = 8;
+
+// Moves a sound scanner on over a part.
 pub fn scan(scanner: Scanner, part: &[u8]) -> Fed
     requires { ⌜ Sound scanner ⌝ }
     ensures { λ r. ⌜ r ≡ scan scanner 0 (now (part .entry)) ⌝ }
@@ -30,142 +34,113 @@ pub fn scan(scanner: Scanner, part: &[u8]) -> Fed
             cut: false,
         };
     }
-    let mut run = run::begun(scanner, part);
-    if run.window < 16 {
-        run = run::pass_one(run, part);
-    } else {
-        run = by_blocks(run, part);
-        if run.at == run.deadline {
-            return run::cut(run.window, run.at);
-        }
+    let run = run::begun(scanner, part);
+    if run.window < SMALLEST {
+        return run::by_bytes(run::pass_one(run, part), part);
     }
-    run::by_bytes(run, part)
+    if scanner.count == 0 {
+        return by_windows(run, part);
+    }
+    from_middle(run, part)
 }
 
-// The length of the first chunk of a job that is not empty. It scans by small blocks alone, so that the
-// scan by large ones has one caller, where the compiler inlines it.
+// The length of the first chunk of a job that is not empty.
 pub fn first_chunk(window: u32, job: &[u8]) -> usize
     requires { ⌜ 1 ≤ window ⌝ }
     requires { ⌜ window ≤ windowLimit ⌝ }
     requires { ⌜ 1 ≤ length (now job) ⌝ }
     ensures { λ r. ⌜ r ≡ scan (fresh window) 0 (now (job .entry)) .consumed ⌝ }
 {
-    let mut run = run::begun(scan::fresh(window), job);
-    if run.window < 16 {
-        run = run::pass_one(run, job);
-    } else {
-        run = by_small_blocks(run, job);
-        if run.at == run.deadline {
-            return run.at;
-        }
+    let run = run::begun(scan::fresh(window), job);
+    if run.window < SMALLEST {
+        let answer = run::by_bytes(run::pass_one(run, job), job);
+        return answer.consumed;
     }
-    let answer = run::by_bytes(run, job);
-    answer.consumed
+    let after = windows::settled(run.window, job, run.at, run.value);
+    min(after + run.window, job.len())
 }
 
-// A block at a time, as long as blocks are left: of the bytes up to the deadline only the first of the
-// largest can matter. The last block before the deadline reaches back over bytes that are not larger
-// than `value`.
-fn by_blocks(run: Run, part: &[u8]) -> Run
+// The smaller of two numbers.
+fn min(a: usize, b: usize) -> usize
+    ensures { λ r. ⌜ r ≡ min a b ⌝ }
+{
+    if a < b { a } else { b }
+}
+
+// Window by window, from a byte that is the largest so far.
+fn by_windows(run: Run, part: &[u8]) -> Fed
     requires { ⌜ Going run (now part) ⌝ }
-    requires { ⌜ 16 ≤ run .window ⌝ }
+    requires { ⌜ run .deadline ≡ run .at + run .window ⌝ }
+    requires { ⌜ 8 ≤ run .window ⌝ }
+    ensures { λ r. ⌜ r ≡ rest run (now (part .entry)) ⌝ }
+{
+    let after = windows::settled(run.window, part, run.at, run.value);
+    let deadline = after + run.window;
+    if deadline <= part.len() {
+        return run::cut(run.window, deadline);
+    }
+    let mut value = run.value;
+    if run.at < after {
+        value = part[after - 1];
+    }
+    let last = Run {
+        window: run.window,
+        base: run.base,
+        deadline,
+        value,
+        at: after,
+    };
+    run::passed(to_end(last, part))
+}
+
+// From the middle of a window: first byte by byte, up to one that is larger.
+fn from_middle(run: Run, part: &[u8]) -> Fed
+    requires { ⌜ Going run (now part) ⌝ }
+    requires { ⌜ 8 ≤ run .window ⌝ }
+    ensures { λ r. ⌜ r ≡ rest run (now (part .entry)) ⌝ }
+{
+    let run = to_larger(run, part);
+    if run.at == run.deadline {
+        return run::cut(run.window, run.at);
+    }
+    if run.at == part.len() {
+        return run::passed(run);
+    }
+    by_windows(run, part)
+}
+
+// Passes bytes up to and including one that is larger than the value, or to the deadline or the part's end.
+fn to_larger(run: Run, part: &[u8]) -> Run
+    requires { ⌜ Going run (now part) ⌝ }
     ensures { λ r. ⌜ Advanced run r (now (part .entry)) ⌝ }
 {
     let mut run = run;
-    while run.at < part.len() {
-        run = by_large_blocks(run, part);
-        let end = blocks::min(run.deadline, part.len());
-        if end < 16 {
-            return run;
-        }
-        if end < run.deadline {
-            if end - run.at < 16 {
-                return run;
-            }
-        }
-        let block = blocks::pick(part, run.at, end);
-        run.at = block.to;
-        if block.most > run.value {
-            run.value = block.most;
-            run.deadline = blocks::first_of(part, block) + 1 + run.window;
-            if run.deadline == run.at + run.window {
-                run = while_larger(run, part);
-            }
-        } else {
-            if run.at == run.deadline {
-                return run;
-            }
-        }
-    }
-    run
-}
-
-// Passes bytes that are each larger than the largest so far, except the part's last. While bytes keep
-// rising, another block would gain nothing: its largest byte is its last.
-fn while_larger(run: Run, part: &[u8]) -> Run
-    requires { ⌜ Going run (now part) ⌝ }
-    ensures { λ r. ⌜ Passed run r (now (part .entry)) ⌝ }
-{
-    let mut run = run;
-    while run.at + 1 < part.len() {
+    let stop = min(run.deadline, part.len());
+    while run.at < stop {
         let at = run.at;
         let byte = part[at];
-        if byte <= run.value {
+        run.at = at + 1;
+        if byte > run.value {
+            run.value = byte;
+            run.deadline = at + 1 + run.window;
             return run;
         }
-        run.value = byte;
-        run.at = at + 1;
-        run.deadline = at + 1 + run.window;
     }
     run
 }
 
-// Passes the blocks of 64 bytes that end before the deadline. Where the largest byte rises, its
-// place is looked for once, at the end: until then the deadline counts from the start of its block.
-fn by_large_blocks(run: Run, part: &[u8]) -> Run
+// Passes the rest of a part that ends before the deadline: only the first of its largest bytes matters.
+fn to_end(run: Run, part: &[u8]) -> Run
     requires { ⌜ Going run (now part) ⌝ }
-    ensures { λ r. ⌜ Passed run r (now (part .entry)) ⌝ }
-{
-    let mut best = Block {
-        from: run.at,
-        to: run.at,
-        most: run.value,
-    };
-    let mut limit = blocks::min(run.deadline, part.len());
-    let mut next = run;
-    while next.at + 64 < limit {
-        let block = blocks::block_64(part, next.at);
-        next.at = block.to;
-        if block.most > best.most {
-            best = block;
-            limit = blocks::min(block.from + 1 + run.window, part.len());
-        }
-    }
-    if best.most > run.value {
-        next.value = best.most;
-        next.deadline = blocks::first_of(part, best) + 1 + run.window;
-    }
-    next
-}
-
-// Passes the blocks of 16 bytes that end by the deadline, or ends the chunk with one.
-fn by_small_blocks(run: Run, part: &[u8]) -> Run
-    requires { ⌜ Going run (now part) ⌝ }
-    requires { ⌜ 16 ≤ run .window ⌝ }
-    ensures { λ r. ⌜ Advanced run r (now (part .entry)) ⌝ }
+    requires { ⌜ length (now part) < run .deadline ⌝ }
+    ensures { λ r. ⌜ Ended run r (now (part .entry)) ⌝ }
 {
     let mut run = run;
-    while run.at + 16 <= blocks::min(run.deadline, part.len()) {
-        let small = blocks::block_16(part, run.at);
-        run.at = small.to;
-        if small.most > run.value {
-            run.value = small.most;
-            run.deadline = blocks::first_of(part, small) + 1 + run.window;
-        } else {
-            if run.at == run.deadline {
-                return run;
-            }
-        }
+    let most = blocks::largest_from(part, run.at);
+    if most > run.value {
+        run.value = most;
+        run.deadline = blocks::place_of(part, run.at, most) + 1 + run.window;
     }
+    run.at = part.len();
     run
 }

@@ -13,7 +13,10 @@ pub use scan::Fed;
 pub use scan::Scanner;
 
 // The widest window.
-pub const WINDOW_LIMIT: u32 = 1024;
+pub const WINDOW_LIMIT: u32 = 64;
+
+// The bytes of the longest chunk: memory of this length holds any one.
+pub const CHUNK_LIMIT: u32 = 256 * WINDOW_LIMIT + 1;
 
 pub struct Opened {
     pub refusal: Refusal,

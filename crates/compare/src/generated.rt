@@ -22,7 +22,7 @@ fn compared(tally: Tally, window: u32, number: u32) -> Tally {
 
 // Compares the longest chunks of a window and 400 jobs, and prints their line.
 pub fn group(window: u32) {
-    let mut room = io::large_buffer();
+    let mut room = [0u8; chunker::CHUNK_LIMIT as usize];
     let mut tally = handworked::longest_chunks(window, &mut room);
     let mut number = 0;
     while number < 400 {

@@ -9,16 +9,17 @@ mod method;
 mod random;
 mod tally;
 
-// The windows compared are 1 to 17, 31 to 33, 64 and 1,024. From 16 on the scanner scans by blocks.
+// The windows compared are 1 to 17, 31 to 33, 48, 63 and 64. The scanner scans byte by byte below 8, and by blocks of 8, 16 and
+// 32 bytes up to 16, 32 and 64.
 fn main() {
     handworked::worked();
     let mut window = 1;
-    while window <= 1024 {
+    while window <= 64 {
         generated::group(window);
         window = match window {
             17 => 31,
-            33 => 64,
-            64 => 1024,
+            33 => 48,
+            48 => 63,
             _ => window + 1,
         };
     }

@@ -26,7 +26,7 @@ pub extern "C" fn hirunvel_scanner_feed(
         ≡ scannerFed (now (scanner .entry)) (now (part .entry)) ⌝ }
 {
     let lent = *scanner;
-    if 16 <= lent[0] {
+    if 8 <= lent[0] {
         return feed_general(scanner, part, fed);
     }
     if !numbers::untouched(lent) {

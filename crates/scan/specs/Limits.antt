@@ -1,6 +1,10 @@
--- The widest window.
-use Prim.Native.Nat.{ℕ}
+-- The widest window, and the longest chunk.
+use Prim.Native.Nat.{ℕ, _+_, _*_}
 
--- "The window is not 1 to 1,024" is ground 1
+-- "The widest window in any sold line is 64. Make that the limit in ground 1"
 abbrev pub windowLimit : ℕ
-windowLimit = 1024
+windowLimit = 64
+
+-- "so the longest piece is 16,385 bytes"
+abbrev pub chunkLimit : ℕ
+chunkLimit = 256 * windowLimit + 1

@@ -51,7 +51,7 @@ pub fn begun(scanner: Scanner, part: &[u8]) -> Run
 }
 
 // The part is passed, and no cut follows it.
-fn passed(run: Run) -> Fed
+pub fn passed(run: Run) -> Fed
     requires { ⌜ run .base + run .at < 2 ^ 32 ⌝ }
     requires { ⌜ run .base + run .deadline < 2 ^ 32 ⌝ }
     requires { ⌜ run .window < run .base + run .deadline ⌝ }

@@ -1,12 +1,15 @@
 -- `block_scan::first_chunk` meets its contract.
+use Prim.Native.Nat.{_+_}
 use native.Mathlib.Omega.{arith}
-use mathlib.Core.Path.{ap, _∙_}
-use mathlib.Core.Logic.{⊎-elim}
+use native.Mathlib.Decide.{decLt}
+use mathlib.Core.Path.{_∙_, refl, ap, sym}
+use lib.ListN.{length}
 use borrow.Author.Needs.{needs}
 use Rattle.scan.specs.Scanner.{fresh}
-use Rattle.scan.specs.internal.Run.{Begun, Further}
+use Rattle.scan.specs.internal.Run.{Begun}
 use Rattle.scan.proofs.laws.Soundness.{fresh-sound}
-use Rattle.block_scan.proofs.laws.ScanEnds.{ends-chunk}
+use Rattle.block_scan.proofs.laws.Peaks.{settled-under, settled-cuts}
+use Rattle.block_scan.proofs.laws.PartEnds.{consumed-whole}
 use Rattle.block_scan.proofs.first_chunk.Statement.{statement}
 use Rattle.block_scan.proofs.first_chunk.Tie as tie
 
@@ -15,38 +18,50 @@ fresh-requires c κs = search needs
 
 begun-requires : tie.Need-begun-requires
 begun-requires c κs =
-    (rw (c .fresh .ensures) (fresh-sound _ (c .before .before .pre .0) (c .before .before .pre .1 .0)), c .before .before .pre .1 .1)
+    let pre = c .before .before .pre in
+    (rw (c .fresh .ensures) (fresh-sound _ (pre .0) (pre .1 .0)), pre .1 .1)
 
--- the scan begins with a fresh scanner
+-- the run that sets out on the job
 begins : (c : tie.After-begun) → let a = c .before .before .before .args in Begun (fresh (a .window)) (c .begun .result) (a .job .now)
 begins c = rw (c .before .fresh .ensures) at (c .begun .ensures)
 
 pass-one-requires : tie.Need-pass-one-requires
-pass-one-requires c κs = c .before .before .begun .ensures .going
+pass-one-requires c κs = search needs
 
-by-small-blocks-requires : tie.Need-by-small-blocks-requires
-by-small-blocks-requires c κs = (c .before .before .begun .ensures .going, omega arith)
+by-bytes-requires : tie.Need-by-bytes-requires
+by-bytes-requires c κs = search needs
 
 returns : tie.Need-returns
 returns c =
-    let blocks = c .before .before in
-    ap (λ f. f .consumed) (ends-chunk (begins (blocks .before .before .before)) (blocks .by-small-blocks .ensures) (c .if2 .taken))
+    let passed = c .before in
+    let begun = passed .before .before .before in
+    ap (λ f. f .consumed) (c .by-bytes .ensures ∙ (passed .pass-one .ensures .gives ∙ begins begun .gives))
 
--- the run after one byte, or after the blocks
-further : (c : tie.Joined1) → let begun = c .before .before in
-    Further (begun .begun .result) (c .if1 .run) (begun .before .before .before .args .job .now)
-further c =
-    ⊎-elim (λ one. rw (one .2) (one .1 .ensures))
-    (λ blocks. rw (blocks .4) (blocks .1 .ensures .uncut (omega (arith, blocks .1 .ensures .bound, blocks .3 .left))))
-    (c .if1 .came)
+settled-requires : tie.Need-settled-requires
+settled-requires c κs = search needs
 
-by-bytes-requires : tie.Need-by-bytes-requires
-by-bytes-requires c κs = further c .going
+add-min : tie.Need-add-min
+add-min c = search needs
+
+min-requires : tie.Need-min-requires
+min-requires c κs = search needs
 
 returns-2 : tie.Need-returns-2
 returns-2 c =
-    ap (λ f. f .consumed)
-    (c .by-bytes .ensures ∙ (further (c .before) .gives ∙ begins (c .before .before .before) .gives))
+    let settled = c .before .before in
+    let begun = settled .before .before .before in
+    let s = settled .settled .ensures in
+    let b = begins begun in
+    let known = begun .before .before .shared-slice-known .given in
+    let w = begun .begun .result .window in
+    let after = settled .settled .result in
+    elim (decLt (length (begun .before .before .before .args .job .now)) (after + w)) [
+      | yes short ↦
+          c .min .ensures ∙ (omega arith ∙ (sym (consumed-whole _ _ _ _ (λ q. omega (arith, known q)) _ _ _
+          (settled-under s (b .going) (b .whole refl)) short) ∙ ap (λ f. f .consumed) (b .gives)))
+      | no long ↦
+          c .min .ensures ∙ (omega arith ∙ ap (λ f. f .consumed) (settled-cuts s (b .going) (b .whole refl) (after + w) refl (omega arith) ∙ b .gives))
+    ]
 
 pub first-chunk-spec : {M : Type 1} → statement M
 first-chunk-spec =
@@ -55,7 +70,9 @@ first-chunk-spec =
     fresh-requires
     begun-requires
     pass-one-requires
-    by-small-blocks-requires
-    returns
     by-bytes-requires
+    returns
+    settled-requires
+    add-min
+    min-requires
     returns-2)

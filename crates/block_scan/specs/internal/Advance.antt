@@ -1,5 +1,5 @@
--- How far a scan by blocks has come.
-use Prim.Native.Nat.{ℕ, _≤_, _<_}
+-- How far a scan has come.
+use Prim.Native.Nat.{_+_, _≤_, _<_, ℕ}
 use mathlib.Core.Path.{_≡_}
 use mathlib.Core.Bool.{true}
 use mathlib.Core.List.{List}
@@ -7,19 +7,17 @@ use lib.ListN.{length}
 use Rattle.scan.specs.declared.run.Run.{Run}
 use Rattle.scan.specs.Scanner.{fresh}
 use Rattle.scan.specs.Scan.{consumed}
-use Rattle.scan.specs.internal.Run.{Going, rest, Further}
+use Rattle.scan.specs.internal.Run.{rest, Further}
 
--- a run further on in the part and before its end, with the same window and the same answer to come
-pub record Passed (r next : Run) (part : List ℕ) : Type 0 where
-  pub window : next .window ≡ r .window
-  pub on : r .at ≤ next .at
-  pub going : Going next part
-  pub gives : rest next part ≡ rest r part
-  pub inside : r .at < length part → next .at < length part
-
--- a run further on in the part, or at the end of the chunk
+-- a run further on in the part, or at the end of the chunk; inside the part it has a whole window to come
 pub record Advanced (r next : Run) (part : List ℕ) : Type 0 where
   pub window : next .window ≡ r .window
   pub bound : next .at ≤ next .deadline
   pub cut : next .at ≡ next .deadline → consumed (fresh (r .window)) (next .at) true ≡ rest r part
   pub uncut : next .at < next .deadline → Further r next part
+  pub whole : next .at < next .deadline → next .at < length part → next .deadline ≡ next .at + next .window
+
+-- a run at the end of the part
+pub record Ended (r next : Run) (part : List ℕ) : Type 0 where
+  pub further : Further r next part
+  pub end : next .at ≡ length part

@@ -5,10 +5,10 @@ use Rattle.compare.proofs.main.Statement.{statement}
 use Rattle.compare.proofs.main.Tie as tie
 
 abbrev Inv-loop : tie.InvT-loop
-Inv-loop window₀ window = window ≤ 1025
+Inv-loop window₀ window = window ≤ 65
 
 abbrev μ-loop : tie.MeasureT-loop
-μ-loop window₀ window = 1025 - window
+μ-loop window₀ window = 65 - window
 
 worked-requires : tie.Need-worked-requires Inv-loop μ-loop
 worked-requires c κs = search needs

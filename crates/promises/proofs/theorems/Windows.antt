@@ -1,4 +1,5 @@
--- The windows that document 01 works by hand: "Windows 0 and 1,025 give 1; 1 and 1,024 are accepted".
+-- The windows at the limits: "Window 64 is accepted, 65 and 1,024 are refused"; of the line that document 01 works by hand,
+-- 0 and 1,025 give 1 and 1 is accepted, as before.
 use Prim.Native.Nat.{ℕ}
 use mathlib.Core.Path.{_≡_, refl}
 use Rattle.refusal.specs.declared.Refusal.the-variants.{Accepted, Window}
@@ -17,9 +18,11 @@ pub record Opens (w : ℕ) : Type 0 where
   pub scanner : openedScanner w ≡ record { refusal = Accepted; scanner = freshScanner w }
   pub store : opened w ≡ record { refusal = Accepted; head = fresh w }
 
-pub windows : Refused 0 × Refused 1025 × Opens 1 × Opens 1024
+pub windows : Refused 0 × Refused 65 × Refused 1024 × Refused 1025 × Opens 1 × Opens 64
 unfolding openedScanner opened windowAllowed
 windows = (
+  record { scanner = refl; store = refl },
+  record { scanner = refl; store = refl },
   record { scanner = refl; store = refl },
   record { scanner = refl; store = refl },
   record { scanner = refl; store = refl },

@@ -44,8 +44,9 @@ pub record Further (r next : Run) (part : List ℕ) : Type 0 where
   pub going : Going next part
   pub gives : rest next part ≡ rest r part
 
--- a run that sets out on a part, with the answer that the scanner gives
+-- a run that sets out on a part, with the answer that the scanner gives; that of a fresh scanner has a whole window to come
 pub record Begun (s : Scanner) (r : Run) (part : List ℕ) : Type 0 where
   pub window : r .window ≡ s .window
   pub going : Going r part
   pub gives : rest r part ≡ scan s 0 part
+  pub whole : s .count ≡ 0 → r .deadline ≡ r .at + r .window

@@ -10,9 +10,6 @@ Inv-loop window tally₀ number₀ t5 tally number = number ≤ 400
 abbrev μ-loop : tie.MeasureT-loop
 μ-loop window tally₀ number₀ t5 tally number = 400 - number
 
-large-buffer-requires : tie.Need-large-buffer-requires Inv-loop μ-loop
-large-buffer-requires c κs = search needs
-
 slice-aggregate-longest-chunks : tie.Need-slice-aggregate-longest-chunks Inv-loop μ-loop
 slice-aggregate-longest-chunks c = search needs
 
@@ -52,7 +49,6 @@ group-spec =
     (tie.spec
     Inv-loop
     μ-loop
-    large-buffer-requires
     slice-aggregate-longest-chunks
     longest-chunks-requires
     loop-holds

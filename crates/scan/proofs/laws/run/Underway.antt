@@ -14,7 +14,7 @@ use Rattle.scan.specs.Scan.{consumed, scan}
 use Rattle.scan.specs.internal.Run.{standing, onward, InOrder}
 use Rattle.scan.specs.internal.Sound.{Sound}
 use Rattle.scan.proofs.laws.run.Scanning.{starts, ends, holds-to, cuts-at, peaks}
-use Rattle.scan.specs.Limits.{windowLimit}
+use Rattle.scan.specs.Limits.{windowLimit, chunkLimit}
 use Rattle.blocks.proofs.laws.Largest.{at-one}
 
 -- `asked` is the answer to the whole part
@@ -155,9 +155,9 @@ module _ {part : List ℕ} {w base d v i : ℕ} (o : InOrder part w base d v i) 
   most : v * w ≤ 255 * windowLimit
   most = let byte : v ≤ 255 = omega arith in mul-le-mul byte (o .high)
 
-  -- the numbers that a scanner keeps are far below 32 bits
-  pub count-small : base + i < 262145
+  -- no chunk is longer than the longest
+  pub count-small : base + i < chunkLimit
   count-small = omega (arith, most)
 
-  pub deadline-small : base + d < 263170
+  pub deadline-small : base + d ≤ chunkLimit
   deadline-small = omega (arith, most)
