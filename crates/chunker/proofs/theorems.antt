@@ -1,6 +1,8 @@
 pub mod PublishedMethod
+pub mod OneCondition
 pub mod EverySplitting
 pub mod ChunkSizes
+pub mod ChunkLimit
 pub mod Soundness
 pub mod Reached
 pub mod SharedEnding
