@@ -53,11 +53,17 @@ extern "C" {
  * job and a pool, 32-bit numbers for a directory and a recipe. A directory has two numbers per entry, so 131,070
  * numbers are 65,535 entries. A part and an output may have any length.
  */
-#define HIRUNVEL_WINDOW_LIMIT 1024u
+#define HIRUNVEL_WINDOW_LIMIT 64u
 #define HIRUNVEL_JOB_LIMIT 16777216u
 #define HIRUNVEL_POOL_LIMIT 67108864u
 #define HIRUNVEL_DIRECTORY_LIMIT 131070u
 #define HIRUNVEL_RECIPE_LIMIT 65535u
+
+/*
+ * The bytes of the longest chunk, whatever the window: memory of this length holds any one. With a window of w it is
+ * 256 * w + 1 bytes; the last chunk of a job, which no cut ends, is shorter by at least one.
+ */
+#define HIRUNVEL_CHUNK_LIMIT 16385u
 
 /*
  * A scanner finds where the chunks of a job end. It is four numbers:

@@ -22,12 +22,13 @@ pub const POOL_FULL: u32 = 8;
 pub const CHUNK_NUMBER: u32 = 9;
 pub const OUTPUT_SHORT: u32 = 10;
 
-// The limits behind the grounds 1, 3 and 4.
-pub const WINDOW_LIMIT: u32 = 1_024;
+// The limits behind the grounds 1, 3 and 4, and the bytes of the longest chunk.
+pub const WINDOW_LIMIT: u32 = 64;
 pub const JOB_LIMIT: usize = 16_777_216;
 pub const POOL_LIMIT: usize = 67_108_864;
 pub const DIRECTORY_LIMIT: usize = 131_070;
 pub const RECIPE_LIMIT: usize = 65_535;
+pub const CHUNK_LIMIT: u32 = 16_385;
 
 #[link(name = "hirunvel", kind = "static")]
 unsafe extern "C" {

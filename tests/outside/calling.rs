@@ -14,6 +14,9 @@ use crate::tally::Tally;
 pub fn run(random: &mut Random, rounds: u64, tally: &mut Tally) -> Result<(), String> {
     for window in (0..2_100).chain(jobs::REFUSED_WINDOWS) {
         hold(&StoreOpen::new(window), tally)?;
+        let store = Store::of_chunks(window, &[vec![7; 2]], &[0; 8], &[0; 4]);
+        hold(&Admit::new(&store, &Lent::new(&[0; 8]), b"label"), tally)?;
+        look_and_rebuild(random, &store, tally)?;
     }
     for _ in 0..rounds {
         let (store, job) = if random.once_in(2) {

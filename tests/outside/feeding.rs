@@ -3,7 +3,7 @@
 use crate::call::compare;
 use crate::jobs;
 use crate::memory::Lent;
-use crate::model::{chunks, longest_chunk, scanner};
+use crate::model::{chunks, longest_chunk, scanner, WINDOW_LIMIT};
 use crate::random::Random;
 use crate::scanner_calls::{Feed, Finish, ScannerOpen};
 use crate::shrink::{hold, smaller_bytes, without_block, Case, Smaller};
@@ -88,6 +88,8 @@ impl Feeding {
 pub fn run(random: &mut Random, feeds: u64, tally: &mut Tally) -> Result<(), String> {
     for window in (0..2_100).chain(jobs::REFUSED_WINDOWS) {
         hold(&ScannerOpen::new(window), tally)?;
+        hold(&Feed::new(&[window, 0, 0, 0], b"label"), tally)?;
+        hold(&Finish::new(&[window, 0, 0, 0]), tally)?;
     }
     while tally.calls(Operation::Feed) < feeds / 4 * 3 {
         let refused = random.once_in(50);
@@ -97,13 +99,13 @@ pub fn run(random: &mut Random, feeds: u64, tally: &mut Tally) -> Result<(), Str
             jobs::window(random)
         };
         let length = job_length(random, window);
-        let job = jobs::job(random, window.clamp(1, 1_024), length);
+        let job = jobs::job(random, window.clamp(1, WINDOW_LIMIT), length);
         let parts = split(random, &job);
         hold(&Feeding { window, parts }, tally)?;
     }
     for _ in 0..feeds / 4 {
         let scanner = forged_scanner(random);
-        let window = scanner[0].clamp(1, 1_024);
+        let window = scanner[0].clamp(1, WINDOW_LIMIT);
         let most = random.pick(&[10, 40, 200, 2 * window as usize]);
         let length = random.below(most);
         let part = jobs::job(random, window, length);
@@ -120,7 +122,7 @@ pub fn run(random: &mut Random, feeds: u64, tally: &mut Tally) -> Result<(), Str
 
 /// A length for a job: short, of some windows, or of more than the longest chunk.
 fn job_length(random: &mut Random, window: u32) -> usize {
-    let window = window.clamp(1, 1_024) as usize;
+    let window = window.clamp(1, WINDOW_LIMIT) as usize;
     match random.below(20) {
         0..=3 => random.below(10),
         4..=11 => random.below(200),

@@ -7,7 +7,7 @@ use crate::random::Random;
 
 /// A store whose head fits, and a job some of whose chunks it holds.
 pub fn store(random: &mut Random) -> (Store, Vec<u8>) {
-    let window = jobs::window(random).min(100);
+    let window = jobs::window(random);
     let length = 1 + random.below(4 * window as usize + 40);
     let job = jobs::job(random, window, length);
     let mut held: Vec<Vec<u8>> = Vec::new();
@@ -68,7 +68,7 @@ fn damage_head(random: &mut Random, store: &mut Store) {
     store.head[index] = match random.below(6) {
         0 | 1 => number.wrapping_add(1),
         2 | 3 => number.wrapping_sub(1),
-        4 => random.pick(&[0, 1_024, 1_025, 1 << 31, u32::MAX]),
+        4 => random.pick(&[0, 64, 65, 1_024, 1_025, 1 << 31, u32::MAX]),
         _ => random.number() as u32,
     };
 }

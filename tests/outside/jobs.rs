@@ -3,12 +3,12 @@
 use crate::random::Random;
 
 /// Windows that are accepted.
-pub const WINDOWS: [u32; 21] = [
-    1, 2, 3, 4, 5, 7, 8, 15, 16, 17, 31, 32, 33, 63, 64, 65, 100, 255, 256, 1_000, 1_024,
+pub const WINDOWS: [u32; 20] = [
+    1, 2, 3, 4, 5, 7, 8, 9, 12, 15, 16, 17, 24, 31, 32, 33, 47, 48, 63, 64,
 ];
 
 /// Windows that are refused.
-pub const REFUSED_WINDOWS: [u32; 7] = [0, 1_025, 1_026, 2_048, 65_536, 1 << 31, u32::MAX];
+pub const REFUSED_WINDOWS: [u32; 9] = [0, 65, 66, 1_024, 1_025, 2_048, 65_536, 1 << 31, u32::MAX];
 
 /// A window that is accepted; a small one more often.
 pub fn window(random: &mut Random) -> u32 {

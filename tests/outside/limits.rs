@@ -1,6 +1,8 @@
 //! Jobs, pools, directories, recipes and chunks at their limits and one past them.
 
 use crate::call::{compare, Call};
+use crate::hirunvel::CHUNK_LIMIT;
+use crate::jobs;
 use crate::memory::{Lent, Store};
 use crate::model::*;
 use crate::random::Random;
@@ -16,7 +18,7 @@ pub fn run(random: &mut Random, tally: &mut Tally) -> Result<(), String> {
     longest_pools(random, tally)?;
     longest_directories(random, tally)?;
     longest_chunks(tally)?;
-    sums_past_32_bits(tally)
+    largest_sums(tally)
 }
 
 /// Compares a call and checks that it ends with this refusal. Gives the call as it was left.
@@ -70,25 +72,30 @@ fn used<T: Clone + From<u8>>(length: usize) -> Vec<T> {
 
 /// Jobs of 16,777,216 bytes, new and repeated, and of one byte more.
 fn longest_jobs(random: &mut Random, tally: &mut Tally) -> Result<(), String> {
-    let mut job = random.bytes(JOB_LIMIT);
-    let fresh = Store::new([1_024, 0, 0], &used(JOB_LIMIT), &used(60_000));
+    let mut job = jobs::long_rise(random, WINDOW_LIMIT as usize, JOB_LIMIT);
+    for byte in job.iter_mut().step_by(1_000) {
+        *byte = random.byte();
+    }
+    let fresh = Store::new([WINDOW_LIMIT, 0, 0], &used(JOB_LIMIT), &used(60_000));
     let after = admit(&fresh, 30_000, &job, ACCEPTED, tally)?;
     let (store, recipe) = (&after.store, after.written_recipe());
     rebuild(store, recipe, JOB_LIMIT, ACCEPTED, tally)?;
     rebuild(store, recipe, JOB_LIMIT - 1, OUTPUT_SHORT, tally)?;
     admit(store, 30_000, &job, ACCEPTED, tally)?;
+    let mut full = store.clone();
+    full.pool = Lent::new(&store.pool[..store.head[2] as usize]);
     job[JOB_LIMIT / 2] ^= 0x80;
-    admit(store, 30_000, &job, POOL_FULL, tally)?;
+    admit(&full, 30_000, &job, POOL_FULL, tally)?;
     job.push(0);
     admit(store, 30_000, &job, JOB_LENGTH, tally)?;
-    expect(&Feed::new(&[1_024, 0, 0, 0], &job), ACCEPTED, tally)?;
+    expect(&Feed::new(&[WINDOW_LIMIT, 0, 0, 0], &job), ACCEPTED, tally)?;
     Ok(())
 }
 
-/// Jobs of 65,535 and 65,536 chunks with the smallest and with a large window, and recipes of as
+/// Jobs of 65,535 and 65,536 chunks with the smallest and with the largest window, and recipes of as
 /// many numbers.
 fn longest_recipes(random: &mut Random, tally: &mut Tally) -> Result<(), String> {
-    for window in [1, 255] {
+    for window in [1, WINDOW_LIMIT] {
         let chunk = window as usize + 1;
         let fresh = Store::new([window, 0, 0], &used(2_000), &used(10));
         let job = vec![random.byte(); chunk * (RECIPE_LIMIT + 1)];
@@ -111,21 +118,23 @@ fn longest_recipes(random: &mut Random, tally: &mut Tally) -> Result<(), String>
 
 /// A pool of 67,108,864 bytes that is full, or full but for one chunk, and one of a byte more.
 fn longest_pools(random: &mut Random, tally: &mut Tally) -> Result<(), String> {
-    let length = POOL_LIMIT / 256;
-    let chunks: Vec<Vec<u8>> = (0..256).map(|_| random.bytes(length)).collect();
-    let job = vec![0x11; 1_025];
-    let full = Store::of_chunks(1_024, &chunks, &[], &used(4));
+    let length = longest_chunk(WINDOW_LIMIT) as usize - 1;
+    let last = POOL_LIMIT / length - 1;
+    let chunks: Vec<Vec<u8>> = (0..=last).map(|_| random.bytes(length)).collect();
+    let job = vec![0x11; WINDOW_LIMIT as usize + 1];
+    let full = Store::of_chunks(WINDOW_LIMIT, &chunks, &[], &used(4));
+    let recipe = [last as u32, 0];
     admit(&full, 3, &job, POOL_FULL, tally)?;
-    look(&full, 255, ACCEPTED, tally)?;
-    rebuild(&full, &[255, 0], 2 * length, ACCEPTED, tally)?;
-    let over = Store::of_chunks(1_024, &chunks, &[0], &used(4));
+    look(&full, last as u32, ACCEPTED, tally)?;
+    rebuild(&full, &recipe, 2 * length, ACCEPTED, tally)?;
+    let over = Store::of_chunks(WINDOW_LIMIT, &chunks, &[0], &used(4));
     admit(&over, 3, &job, MEMORY_LIMIT, tally)?;
-    look(&over, 255, MEMORY_LIMIT, tally)?;
-    rebuild(&over, &[255, 0], 2 * length, MEMORY_LIMIT, tally)?;
+    look(&over, last as u32, MEMORY_LIMIT, tally)?;
+    rebuild(&over, &recipe, 2 * length, MEMORY_LIMIT, tally)?;
     let mut roomy = full;
-    for (spare, refusal) in [(1_024, POOL_FULL), (1_025, ACCEPTED)] {
+    for (spare, refusal) in [(job.len() - 1, POOL_FULL), (job.len(), ACCEPTED)] {
         roomy.head[2] = (POOL_LIMIT - spare) as u32;
-        roomy.directory[2 * 255 + 1] = (length - spare) as u32;
+        roomy.directory[2 * last + 1] = (length - spare) as u32;
         admit(&roomy, 3, &job, refusal, tally)?;
     }
     Ok(())
@@ -156,37 +165,41 @@ fn longest_directories(random: &mut Random, tally: &mut Tally) -> Result<(), Str
     Ok(())
 }
 
-/// Chunks of 262,145 bytes, the longest there are, which differ in their last byte.
+/// Chunks of 16,385 bytes, the longest there are, which differ in their last byte.
 fn longest_chunks(tally: &mut Tally) -> Result<(), String> {
-    let longest = longest_chunk(1_024) as usize;
-    let rise: Vec<u8> = (0..=255).flat_map(|byte| [byte; 1_024]).collect();
+    let longest = longest_chunk(WINDOW_LIMIT) as usize;
+    let rise: Vec<u8> = (0..=255)
+        .flat_map(|byte| [byte; WINDOW_LIMIT as usize])
+        .collect();
     let job = [&rise[..], &[0], &rise[..], &[1]].concat();
-    let uncut = expect(&Feed::new(&[1_024, 0, 0, 0], &rise), ACCEPTED, tally)?;
+    let uncut = expect(&Feed::new(&[WINDOW_LIMIT, 0, 0, 0], &rise), ACCEPTED, tally)?;
     let last = expect(&Feed::new(&uncut.scanner, &[255, 255]), ACCEPTED, tally)?;
-    let cut = expect(&Feed::new(&[1_024, 0, 0, 0], &job), ACCEPTED, tally)?;
+    let cut = expect(&Feed::new(&[WINDOW_LIMIT, 0, 0, 0], &job), ACCEPTED, tally)?;
     let fed = [&uncut.fed[..], &last.fed, &cut.fed].concat();
-    if fed != [longest as u64 - 1, 0, 1, 1, longest as u64, 1] {
+    let limit = u64::from(CHUNK_LIMIT);
+    if fed != [limit - 1, 0, 1, 1, limit, 1] {
         return Err(format!("The feeds of the longest chunk give {fed:?}."));
     }
-    let fresh = Store::new([1_024, 0, 0], &used(2 * longest), &used(4));
+    let fresh = Store::new([WINDOW_LIMIT, 0, 0], &used(2 * longest), &used(4));
     let after = admit(&fresh, 2, &job, ACCEPTED, tally)?;
     rebuild(&after.store, &[1, 0], job.len() + 1, ACCEPTED, tally)?;
     admit(&fresh, 1, &job, RECIPE_FULL, tally)?;
-    let tight = Store::new([1_024, 0, 0], &used(2 * longest - 1), &used(4));
+    let tight = Store::new([WINDOW_LIMIT, 0, 0], &used(2 * longest - 1), &used(4));
     admit(&tight, 2, &job, POOL_FULL, tally)?;
     Ok(())
 }
 
-/// A rebuilt length, and the end of a store, that are 0 in 32 bits.
-fn sums_past_32_bits(tally: &mut Tally) -> Result<(), String> {
-    let length = 262_144;
+/// The longest rebuilt job, and the end of a forged store that is 0 in 32 bits.
+fn largest_sums(tally: &mut Tally) -> Result<(), String> {
+    let longest = longest_chunk(WINDOW_LIMIT) as usize;
+    let store = Store::of_chunks(WINDOW_LIMIT, &[used(longest)], &[], &[]);
+    rebuild(&store, &vec![0; RECIPE_LIMIT], 40, OUTPUT_SHORT, tally)?;
+    let length: usize = 1 << 17;
     let count = (1 << 32) / length;
-    let store = Store::of_chunks(1_024, &[used(length)], &[], &[]);
-    rebuild(&store, &vec![0; count], 40, OUTPUT_SHORT, tally)?;
     let directory: Vec<u32> = (0..count)
         .flat_map(|entry| [(entry * length) as u32, length as u32])
         .collect();
-    let wrapped = Store::new([1_024, count as u32, 0], &used(40), &directory);
+    let wrapped = Store::new([WINDOW_LIMIT, count as u32, 0], &used(40), &directory);
     admit(&wrapped, 4, &[1, 2, 3], HEAD, tally)?;
     look(&wrapped, 0, HEAD, tally)?;
     rebuild(&wrapped, &[0], 40, HEAD, tally)?;

@@ -6,6 +6,6 @@ use lib.ListN.{length}
 use Rattle.chunker.specs.Scanner.{windowAllowed}
 use Rattle.chunker.specs.Chunks.{chunks}
 
--- the last chunk, which no cut need end, counts as one; 0 where "The window is not 1 to 1,024"
+-- the last chunk, which no cut need end, counts as one; 0 where the window is not allowed
 unfoldable pub chunkCount : ℕ → List ℕ → ℕ
 chunkCount w job = cond (windowAllowed w) (length (chunks w job)) 0

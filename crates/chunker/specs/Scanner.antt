@@ -9,7 +9,7 @@ use Rattle.refusal.specs.Grounds.{unless, first}
 use Rattle.scan.specs.declared.Scanner.{Scanner}
 use Rattle.scan.specs.Limits.{windowLimit}
 
--- "The window is not 1 to 1,024" does not hold
+-- "Make that the limit in ground 1": the window is 1 to 64
 unfoldable pub windowAllowed : ℕ → Bool
 windowAllowed w = leb 1 w && leb w windowLimit
 

@@ -30,7 +30,7 @@ fn all_below(chunks: ChunkNumber, recipe: &[u32]) -> bool
     below
 }
 
-// The length of a rebuilt job, which may exceed 32 bits.
+// The length of a rebuilt job. It is summed in 64 bits, since all that is asked here is that each chunk lies in the pool.
 fn rebuilt_length(pool: &[u8], directory: &[u32], recipe: &[u32]) -> u64
     requires { ⌜ length (now pool) ≤ poolLimit ⌝ }
     requires { ⌜ length (now recipe) ≤ recipeLimit ⌝ }

@@ -5,7 +5,7 @@ ghost use Rattle.refusal.specs.Number.{numberOf, accepted};
 // reported; `Accepted` says that none does.
 pub enum Refusal {
     Accepted,
-    // 1: the window is not 1 to 1,024.
+    // 1: the window is not 1 to 64.
     Window,
     // 2: the scanner is not sound.
     Unsound,

@@ -30,7 +30,7 @@ pub const CHUNK_NUMBER: u32 = 9;
 pub const OUTPUT_SHORT: u32 = 10;
 
 /// The largest window.
-pub const WINDOW_LIMIT: u32 = 1_024;
+pub const WINDOW_LIMIT: u32 = 64;
 /// The most bytes of a job.
 pub const JOB_LIMIT: usize = 16_777_216;
 /// The most bytes of a pool.
