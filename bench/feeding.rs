@@ -2,7 +2,7 @@
 
 use crate::agreement::{agree, Sequence};
 use crate::interface::{Fed, Scanner, ACCEPTED};
-use crate::plain::chunker;
+use crate::plain::{chunker, gear};
 use crate::table::{megabytes_per_second, number, Axes, Contest, Report};
 use crate::{library, sse2, Inputs, Measure};
 use std::hint::black_box;
@@ -22,15 +22,15 @@ const COUNTS: [(&str, Count); 4] = [
     ("Algorithm 2", chunker::chunk_count_2),
     ("SSE2", sse2::chunk_count),
 ];
-const WINDOWS: [u32; 6] = [1, 4, 16, 64, 256, 1024];
+const WINDOWS: [u32; 8] = [1, 2, 4, 8, 16, 32, 48, 64];
 
 // Those of the table by size of the fed part.
-const PART_WINDOWS: [u32; 3] = [4, 16, 64];
+const PART_WINDOWS: [u32; 5] = [4, 8, 16, 32, 64];
 const PART_SIZES: [usize; 4] = [64, 512, 4096, 65536];
 
 // Those of the small jobs: refused windows, and windows on both sides of each size of a block.
 const SMALL_WINDOWS: [u32; 18] = [
-    0, 1, 2, 3, 4, 5, 6, 7, 8, 9, 15, 16, 31, 32, 63, 64, 1024, 1025,
+    0, 1, 2, 3, 4, 5, 7, 8, 9, 15, 16, 17, 31, 32, 33, 63, 64, 65,
 ];
 const SMALL_JOBS: usize = 500;
 
@@ -200,7 +200,7 @@ fn measure_feeds(
     report.measure(time, &contest, axes, cases);
 }
 
-/// Measures the counts of a whole job's chunks, and tells how long these are.
+/// Measures the counts of a whole job's chunks, and tells how long these are. Gear's chunks are others.
 fn measure_counts(report: &mut Report, time: Duration, axes: &Axes, cases: &mut [Case]) {
     let contest = Contest {
         title: "Whole jobs",
@@ -215,15 +215,21 @@ fn measure_counts(report: &mut Report, time: Duration, axes: &Axes, cases: &mut 
                 count_chunks(chunker::chunk_count_2, case)
             }),
             ("SSE2", |case| count_chunks(sse2::chunk_count, case)),
+            ("Gear", |case| count_chunks(gear::chunk_count, case)),
         ],
         unit: "MB/s",
         figure: |case, nanoseconds| megabytes_per_second(case.job.len(), nanoseconds),
     };
     report.measure(time, &contest, axes, cases);
-    report
-        .figures
-        .push(axes.table("Bytes in a chunk, on average", |case| {
+    let counts: [(&str, Count); 2] = [
+        ("", chunker::chunk_count_1),
+        (", by Gear", gear::chunk_count),
+    ];
+    for (by, count) in counts {
+        let title = format!("Bytes in a chunk, on average{by}");
+        report.figures.push(axes.table(&title, |case| {
             let Case { job, window, .. } = cases[case];
-            number(job.len() as f64 / chunker::chunk_count_1(window, job) as f64)
+            number(job.len() as f64 / count(window, job) as f64)
         }));
+    }
 }

@@ -6,7 +6,7 @@ use crate::timing::Contestant;
 use crate::{library, Inputs, Measure};
 use std::hint::black_box;
 
-const WINDOW: u32 = 1024;
+const WINDOW: u32 = 64;
 
 /// Mebibytes that are in cache, and ones that are not.
 const SIZES: [usize; 2] = [1, 64];
@@ -26,7 +26,7 @@ pub fn prepare(inputs: &Inputs) -> Measure<'_> {
         copy: vec![0; size << 20],
     });
     let contest = Contest {
-        title: "Feeding random bytes at w = 1024",
+        title: "Feeding random bytes at w = 64",
         contestants: &CONTESTANTS,
         unit: "MB/s",
         figure: |case, nanoseconds| megabytes_per_second(case.bytes.len(), nanoseconds),

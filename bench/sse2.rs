@@ -4,13 +4,13 @@
 
 use core::arch::x86_64::*;
 
-/// The number of chunks of a job; 0 where the window is not 1 to 1,024. A window that no block fits takes single bytes.
+/// The number of chunks of a job; 0 where the window is not 1 to 64. A window that no block fits takes single bytes.
 #[inline(never)]
 pub fn chunk_count(window: u32, job: &[u8]) -> u64 {
     match window {
         16..=31 => by_blocks::<1>(window as usize, job),
         32..=63 => by_blocks::<2>(window as usize, job),
-        64..=1024 => by_blocks::<4>(window as usize, job),
+        64 => by_blocks::<4>(window as usize, job),
         _ => crate::plain::chunker::chunk_count_1(window, job),
     }
 }
