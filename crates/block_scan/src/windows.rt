@@ -1,6 +1,5 @@
 // Steps of a whole window: of the w bytes after the largest so far, either none is larger, and the chunk ends with them, or
 // the first of their largest is the largest from then on. One unpredictable branch a step.
-ghost use mathlib.Core.Path.{_≡_};
 ghost use Prim.Native.Nat.{_≤_};
 ghost use lib.ListN.{length};
 ghost use Rattle.scan.specs.Limits.{windowLimit};

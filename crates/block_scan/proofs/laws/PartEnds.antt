@@ -2,13 +2,12 @@
 use Prim.Native.Nat.{ℕ, zero, suc, _+_, _-_, _≤_, _<_}
 use native.Mathlib.Omega.{arith}
 use native.Mathlib.Decide.{decLt}
-use mathlib.Core.Path.{_≡_, refl, sym, ap, subst, _∙_}
+use mathlib.Core.Path.{_≡_, sym, ap, subst, _∙_}
 use mathlib.Core.List.{List}
 use lib.ListN.{length, getD}
 use Rattle.blocks.specs.internal.Largest.{AtMost, FirstAt, Stands}
 use Rattle.blocks.proofs.laws.Largest.{first-within}
 use Rattle.scan.specs.declared.Fed.{Fed}
-use Rattle.scan.specs.internal.Run.{InOrder, onward}
 use Rattle.scan.proofs.laws.run.Underway.{Underway, rises-to, passes-to, byte-rises, byte-passes, stops}
 
 module _ (part : List ℕ) (w base : ℕ) (asked : Fed) (byte : (q : ℕ) → getD part q 0 < 256) where

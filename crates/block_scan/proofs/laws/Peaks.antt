@@ -16,7 +16,7 @@ use Rattle.scan.specs.internal.Run.{InOrder, onward}
 use Rattle.scan.proofs.laws.run.Underway.{Underway, rises-to, cuts-to}
 use Rattle.block_scan.specs.internal.Peaks.{Reached, Settled}
 
--- it stays
+-- a scan that stays
 pub reached-none : (part : List ℕ) (w i v : ℕ) → i ≤ length part → Reached part w i v i v
 reached-none part w i v inside =
     record {
@@ -48,7 +48,7 @@ module _ {part : List ℕ} {w i v : ℕ} where
       }
 
   -- it comes to the byte at index j, which is larger than v and all bytes from i on, within a window
-  pub reached-larger : (j : ℕ) → i ≤ j → (1 ≤ w → j < i + w) → j < length part → v < getD part j 0 → getD part j 0 < 256
+  reached-larger : (j : ℕ) → i ≤ j → (1 ≤ w → j < i + w) → j < length part → v < getD part j 0 → getD part j 0 < 256
       → ((q : ℕ) → i ≤ q → q < j → getD part q 0 < getD part j 0) → Reached part w i v (j + 1) (getD part j 0)
   reached-larger j after within inside larger byte before =
       let here : j ≡ j + 1 - 1 = omega arith in

@@ -1,5 +1,5 @@
 -- How far a scan has come.
-use Prim.Native.Nat.{_+_, _≤_, _<_, ℕ}
+use Prim.Native.Nat.{ℕ, _+_, _≤_, _<_}
 use mathlib.Core.Path.{_≡_}
 use mathlib.Core.Bool.{true}
 use mathlib.Core.List.{List}

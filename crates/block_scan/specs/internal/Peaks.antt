@@ -17,11 +17,11 @@ pub record Reached (part : List ℕ) (w i v j u : ℕ) : Type 0 where
   pub gives : (base : ℕ) → InOrder part w base (i + w) v i
       → onward part w base (j + w) u j ≡ onward part w base (i + w) v i
 
--- .. whatever the window, by bytes that are each larger than all before
+-- .. whatever the window: by bytes that are each larger than all before
 abbrev pub Rising : List ℕ → ℕ → ℕ → ℕ → ℕ → Type 0
 Rising part i v j u = (w : ℕ) → Reached part w i v j u
 
--- .. of a window w, and no byte of the window after it is larger, if the part holds that window
+-- .. and no byte of the window after index j is larger, where the part holds that window
 pub record Settled (part : List ℕ) (w i v j : ℕ) : Type 0 where
   pub value : ℕ
   pub reached : Reached part w i v j value

@@ -1,13 +1,12 @@
 -- Laws of a window that is looked at as two overlapping blocks of n bytes, whatever n is.
-use Prim.Native.Nat.{ℕ, _+_, _-_, _*_, _/_, _%_, min, max, _≤_, _<_}
+use Prim.Native.Nat.{ℕ, _+_, _-_, _/_, _%_, min, max, _≤_, _<_}
 use native.Mathlib.Omega.{arith}
 use native.Mathlib.Decide.{decLt}
-use mathlib.Core.Path.{_≡_, refl, sym, subst}
+use mathlib.Core.Path.{_≡_, refl, subst}
 use mathlib.Core.Bool.{Bool, true, false, true≢false, false≢true}
 use mathlib.Core.List.{List}
 use lib.ListN.{getD}
-use Rattle.blocks.specs.declared.Peak.{Peak}
-use Rattle.blocks.specs.internal.Largest.{Exceeded, AtMost, AnyLarger, FirstLargest}
+use Rattle.blocks.specs.internal.Largest.{Exceeded, AnyLarger, FirstLargest}
 use Rattle.blocks.specs.internal.Key.{keyOf, keyLimit}
 
 module _ (xs : List ℕ) (a b n : ℕ) where

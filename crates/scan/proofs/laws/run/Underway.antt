@@ -147,10 +147,6 @@ module _ {part : List ℕ} {w base d v i : ℕ} {asked : Fed} (u : Underway part
   byte-cuts inside notLarger due =
       cuts-to (i + 1) due (omega arith) (λ q. at-one (λ x. getD part x 0 ≤ v) i q notLarger)
 
--- less is left after a larger index
-pub less-left : (n i k : ℕ) → i < n → i < k → n - k < n - i
-less-left n i k inside further = omega arith
-
 module _ {part : List ℕ} {w base d v i : ℕ} (o : InOrder part w base d v i) where
   most : v * w ≤ 255 * windowLimit
   most = let byte : v ≤ 255 = omega arith in mul-le-mul byte (o .high)
