@@ -1,3 +1,3 @@
-pub mod Peaks
 pub mod Middle
 pub mod PartEnds
+pub mod windows

@@ -6,7 +6,7 @@ use mathlib.Core.Logic.{⊎-elim}
 use borrow.Author.Needs.{needs}
 use Rattle.scan.specs.internal.Run.{rest}
 use Rattle.scan.proofs.laws.run.Underway.{Underway, stops, count-small, deadline-small}
-use Rattle.block_scan.proofs.laws.Peaks.{settled-value, settled-under, settled-cuts}
+use Rattle.block_scan.proofs.laws.windows.Peaks.{settled-value, settled-under, settled-cuts}
 use Rattle.block_scan.proofs.by_windows.Statement.{statement}
 use Rattle.block_scan.proofs.by_windows.Tie as tie
 

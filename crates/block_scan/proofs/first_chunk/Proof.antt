@@ -8,7 +8,7 @@ use borrow.Author.Needs.{needs}
 use Rattle.scan.specs.Scanner.{fresh}
 use Rattle.scan.specs.internal.Run.{Begun}
 use Rattle.scan.proofs.laws.Soundness.{fresh-sound}
-use Rattle.block_scan.proofs.laws.Peaks.{settled-under, settled-cuts}
+use Rattle.block_scan.proofs.laws.windows.Peaks.{settled-under, settled-cuts}
 use Rattle.block_scan.proofs.laws.PartEnds.{consumed-whole}
 use Rattle.block_scan.proofs.first_chunk.Statement.{statement}
 use Rattle.block_scan.proofs.first_chunk.Tie as tie

@@ -5,7 +5,7 @@ use mathlib.Core.Path.{_≡_}
 use borrow.Author.Tests.{not-true, not-false}
 use lib.ListN.{length}
 use Rattle.block_scan.specs.internal.Peaks.{Reached}
-use Rattle.block_scan.proofs.laws.Peaks.{reached-none, reached-then, reached-peak, settles, stops-short}
+use Rattle.block_scan.proofs.laws.windows.Peaks.{reached-none, reached-then, reached-peak, settles, stops-short}
 use Rattle.block_scan.proofs.windows.settled_16.Statement.{statement}
 use Rattle.block_scan.proofs.windows.settled_16.Tie as tie
 

@@ -3,7 +3,7 @@ use Prim.Native.Nat.{_-_}
 use native.Mathlib.Omega.{arith}
 use lib.ListN.{length}
 use Rattle.block_scan.specs.internal.Peaks.{Rising}
-use Rattle.block_scan.proofs.laws.Peaks.{reached-none, reached-then, reached-next}
+use Rattle.block_scan.proofs.laws.windows.Peaks.{reached-none, reached-then, reached-next}
 use Rattle.block_scan.proofs.windows.while_larger.Statement.{statement}
 use Rattle.block_scan.proofs.windows.while_larger.Tie as tie
 
