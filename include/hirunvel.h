@@ -61,7 +61,7 @@ extern "C" {
 
 /*
  * The bytes of the longest chunk, whatever the window: memory of this length holds any one. With a window of w it is
- * 256 * w + 1 bytes; the last chunk of a job, which no cut ends, is shorter by at least one.
+ * 256 * w + 1 bytes; a last chunk that no cut ends is shorter by at least one.
  */
 #define HIRUNVEL_CHUNK_LIMIT 16385u
 
