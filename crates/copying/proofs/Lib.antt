@@ -1,2 +1,2 @@
--- laws/Copying has the laws of `written` and of a copy under way.
+-- laws/Written has the laws of a write; the other laws serve the functions.
 pub mod laws

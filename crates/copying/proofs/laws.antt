@@ -1,1 +1,5 @@
+pub mod Written
 pub mod Copying
+pub mod Stretches
+pub mod Covering
+pub mod fours

@@ -1,2 +1,3 @@
--- What a write to memory leaves.
+-- What a write to memory leaves. In internal/ is what only contracts of this layer cite.
 pub mod Written
+pub mod internal

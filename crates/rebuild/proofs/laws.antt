@@ -1,4 +1,5 @@
 pub mod Recipes
 pub mod LocatedChunks
+pub mod Parts
 pub mod ChunksWritten
 pub mod grounds

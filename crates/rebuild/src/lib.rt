@@ -62,7 +62,7 @@ fn write_chunks(pool: &[u8], directory: &[u32], recipe: &[u32], output: &mut [u8
         let entry = number.0 as usize * STRIDE;
         let from = PoolOffset(directory[entry]);
         let size = directory[entry + 1] as usize;
-        staging::copy_chunk(output, at, total, pool, from, size);
+        copying::copy_chunk(output, at, total, pool, from, size);
         at += size;
         i += 1;
     }

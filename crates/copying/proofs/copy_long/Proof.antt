@@ -18,11 +18,11 @@ loop-holds c = copied-none (c .before .before .pre .1)
 add-loop : tie.Need-add-loop Inv-loop μ-loop
 add-loop c = omega (arith, c .loop .inv .within)
 
-add-copy-block : tie.Need-add-copy-block Inv-loop μ-loop
-add-copy-block c = omega arith
+add-copy-16 : tie.Need-add-copy-16 Inv-loop μ-loop
+add-copy-16 c = omega arith
 
-copy-block-requires : tie.Need-copy-block-requires Inv-loop μ-loop
-copy-block-requires c κs = let inv = c .before .before .loop .inv in omega (arith, inv .fits, inv .kept)
+copy-16-requires : tie.Need-copy-16-requires Inv-loop μ-loop
+copy-16-requires c κs = let inv = c .before .before .loop .inv in omega (arith, inv .fits, inv .kept)
 
 add-done : tie.Need-add-done Inv-loop μ-loop
 add-done c = omega arith
@@ -34,16 +34,16 @@ loop-again : tie.Need-loop-again Inv-loop μ-loop
 loop-again c =
     let copied = c .before .before in
     let turn = copied .before .before .before in
-    copied-over (turn .loop .inv) (turn .loop .done) 16 (omega arith) (omega arith) (omega arith) _ (copied .copy-block .ensures)
+    copied-over (turn .loop .inv) (turn .loop .done) 16 (omega arith) (omega arith) (omega arith) _ (copied .copy-16 .ensures)
 
 sub-last : tie.Need-sub-last Inv-loop μ-loop
 sub-last c = omega arith
 
-add-copy-block-2 : tie.Need-add-copy-block-2 Inv-loop μ-loop
-add-copy-block-2 c = omega arith
+add-copy-16-2 : tie.Need-add-copy-16-2 Inv-loop μ-loop
+add-copy-16-2 c = omega arith
 
-copy-block-requires-2 : tie.Need-copy-block-requires-2 Inv-loop μ-loop
-copy-block-requires-2 c κs = let inv = c .before .before .loop .inv in omega (arith, inv .fits, inv .kept)
+copy-16-requires-2 : tie.Need-copy-16-requires-2 Inv-loop μ-loop
+copy-16-requires-2 c κs = let inv = c .before .before .loop .inv in omega (arith, inv .fits, inv .kept)
 
 same-length : tie.Need-same-length Inv-loop μ-loop
 same-length c = omega (arith, c .before .before .before .before .before .loop .inv .kept)
@@ -54,7 +54,7 @@ returns c =
     let end = copied .before .before .before in
     let bytes = end .before .before .before .args .bytes .now in
     copied-all
-    (copied-over (end .loop .inv) (length bytes - 16) 16 (omega arith) (omega (arith, end .loop .inv .within)) (omega arith) _ (copied .copy-block2 .ensures))
+    (copied-over (end .loop .inv) (length bytes - 16) 16 (omega arith) (omega (arith, end .loop .inv .within)) (omega arith) _ (copied .copy-162 .ensures))
     (omega arith)
 
 pub copy-long-spec : {M : Type 1} → statement M
@@ -65,13 +65,13 @@ copy-long-spec =
     μ-loop
     loop-holds
     add-loop
-    add-copy-block
-    copy-block-requires
+    add-copy-16
+    copy-16-requires
     add-done
     loop-less
     loop-again
     sub-last
-    add-copy-block-2
-    copy-block-requires-2
+    add-copy-16-2
+    copy-16-requires-2
     same-length
     returns)

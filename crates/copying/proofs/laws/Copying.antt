@@ -1,12 +1,13 @@
 -- A copy under way: the first bytes of a chunk stand in the pool.
 use Prim.Native.Nat.{ℕ, _+_, _-_, _≤_, _<_}
 use native.Mathlib.Omega.{arith}
-use native.Mathlib.Numerals.{add-one}
+use native.Mathlib.Numerals.{add-one, unary-clauses}
 use mathlib.Core.Path.{_≡_, refl, sym, ap, _∙_}
 use mathlib.Core.List.{List, _++_, append-assoc}
-use lib.ListN.{length, take, drop, getD, set, length-append, length-take, length-drop, length-set}
-use lib.Seq.{paste, paste-zero, paste-suc, length-paste, take-all, take-length, take-add, take-take, take-append-le, take-append-add, drop-at, drop-drop, length-take-le}
+use lib.ListN.{length, take, drop, getD, set, length-take, length-drop, length-set}
+use lib.Seq.{paste, paste-zero, paste-suc, length-paste, take-length, take-add, take-take, length-take-le}
 use Rattle.copying.specs.Written.{written}
+use Rattle.copying.proofs.laws.Written.{pasted, written-over}
 
 -- the pool after n bytes of a chunk, of which the first goes to `from`
 pub record Copied (before : List ℕ) (from : ℕ) (chunk after : List ℕ) (n : ℕ) : Type 0 where
@@ -21,55 +22,18 @@ pub copied-none : {before : List ℕ} {from : ℕ} {chunk : List ℕ} → from +
 copied-none {before} {from} {chunk} h =
     record { fits = h; within = omega arith; kept = refl; gives = paste-zero before from chunk }
 
--- bytes written to the start of the memory stand there
-pub written-first : (l bytes : List ℕ) (n : ℕ) → length bytes ≡ n → take n (written l 0 bytes) ≡ bytes
-written-first l bytes n size =
-    take-append-le n bytes (drop (0 + length bytes) l) (omega arith) ∙ take-all n bytes (omega arith)
-
--- a write that begins with n wanted bytes and goes on into the stretch of what is written next
-pub written-over : (l : List ℕ) (at : ℕ) (a b : List ℕ) (n : ℕ) → at + length a ≤ length l → n ≤ length a
-    → length a ≤ n + length b → written (written l at a) (at + n) b ≡ written l at (take n a ++ b)
-written-over l at a b n h few covered =
-    let back = drop (at + length a) l in
-    let start : length (take at l) ≡ at = length-take-le at l (omega arith) in
-    let size : length (take at l ++ a) ≡ at + length a = length-append (take at l) a ∙ ap (λ k. k + length a) start in
-    let front : take (at + n) (take at l ++ (a ++ back)) ≡ take at l ++ take n a =
-    (rw start at (take-append-add (take at l) (a ++ back) n)) ∙ ap (λ r. take at l ++ r) (take-append-le n a back few) in
-    let more = n + length b - length a in
-    let place : at + n + length b ≡ at + length a + more = omega arith in
-    let beyond : at + length a + more ≡ at + (n + length b) = omega arith in
-    let later : drop (at + n + length b) (take at l ++ (a ++ back)) ≡ drop (at + (n + length b)) l =
-    ap (λ r. drop (at + n + length b) r) (sym (append-assoc (take at l) a back))
-    ∙ ap (λ k. drop k ((take at l ++ a) ++ back)) place
-    ∙ sym (drop-drop more (at + length a) ((take at l ++ a) ++ back))
-    ∙ ap (drop more) (drop-at (take at l ++ a) back _ size)
-    ∙ drop-drop more (at + length a) l ∙ ap (λ k. drop k l) beyond in
-    let first : length (take n a) ≡ n = length-take-le n a few in
-    rw (front, later, length-append (take n a) b, first) (simp append-assoc)
-
--- two writes, the second where the first ended, are one
-pub written-twice : (l : List ℕ) (at : ℕ) (a b : List ℕ) → at + length a ≤ length l
-    → written (written l at a) (at + length a) b ≡ written l at (a ++ b)
-written-twice l at a b h =
-    written-over l at a b (length a) h (omega arith) (omega arith) ∙ ap (λ x. written l at (x ++ b)) (take-length a)
-
-module _ (d : List ℕ) (at : ℕ) (s : List ℕ) where
-  -- a copy of n bytes is a write of them
-  pasted : (n : ℕ) → n ≤ length s → paste d at s n ≡ written d at (take n s)
-  pasted n h = rw (length-take-le n s h) (append-assoc (take at d) (take n s) (drop (at + n) d))
-
-  -- k bytes from place m on, written over or right after the n that are copied
-  paste-over : (n m k : ℕ) → m ≤ n → n ≤ m + k → m + k ≤ length s → at + length s ≤ length d
-      → written (paste d at s n) (at + m) (take k (drop m s)) ≡ paste d at s (m + k)
-  paste-over n m k h g l f =
-      let part = take k (drop m s) in
-      let size : length part ≡ k = simp (length-take, length-drop) (omega arith) in
-      let first : length (take n s) ≡ n = length-take-le n s (omega arith) in
-      let joined : take m (take n s) ++ part ≡ take (m + k) s =
-      ap (λ x. x ++ part) (take-take m n s h) ∙ sym (take-add m k s) in
-      ap (λ x. written x (at + m) part) (pasted n (omega arith))
-      ∙ (written-over d at (take n s) part m (omega (arith, first)) (omega (arith, first)) (omega (arith, first, size))
-      ∙ (ap (written d at) joined ∙ sym (pasted (m + k) l)))
+-- k bytes from place m on, written over or right after the n that are copied
+paste-over : (d : List ℕ) (at : ℕ) (s : List ℕ) (n m k : ℕ) → m ≤ n → n ≤ m + k → m + k ≤ length s → at + length s ≤ length d
+    → written (paste d at s n) (at + m) (take k (drop m s)) ≡ paste d at s (m + k)
+paste-over d at s n m k h g l f =
+    let part = take k (drop m s) in
+    let size : length part ≡ k = simp (length-take, length-drop) (omega arith) in
+    let first : length (take n s) ≡ n = length-take-le n s (omega arith) in
+    let joined : take m (take n s) ++ part ≡ take (m + k) s =
+    ap (λ x. x ++ part) (take-take m n s h) ∙ sym (take-add m k s) in
+    ap (λ x. written x (at + m) part) (pasted d at s n (omega arith))
+    ∙ (written-over d at (take n s) part m (omega (arith, first)) (omega (arith, first)) (omega (arith, first, size))
+    ∙ (ap (written d at) joined ∙ sym (pasted d at s (m + k) l)))
 
 module _ {before : List ℕ} {from : ℕ} {chunk after : List ℕ} {n : ℕ} (c : Copied before from chunk after n) where
   -- the next byte is copied
@@ -100,3 +64,13 @@ module _ {before : List ℕ} {from : ℕ} {chunk after : List ℕ} {n : ℕ} (c 
   copied-all h =
       let all : n ≡ length chunk = omega arith in
       rw (c .gives, all, take-length, append-assoc)
+
+-- two blocks of k bytes, the second at the end, are all bytes of up to 2 × k
+pub two-blocks : (l : List ℕ) (at : ℕ) (bytes : List ℕ) {now now′ : List ℕ} (k : ℕ) → at + length bytes ≤ length l
+    → k ≤ length bytes → length bytes ≤ k + k → now ≡ written l at (take k (drop 0 bytes))
+    → now′ ≡ written now (at + (length bytes - k)) (take k (drop (length bytes - k) bytes)) → now′ ≡ written l at bytes
+two-blocks l at bytes {now} {now′} k h few many first second =
+    let last = length bytes - k in
+    let begun : Copied l at bytes now (0 + k) =
+    copied-over (copied-none h) 0 k (omega arith) (omega arith) (omega arith) now (simp unary-clauses first) in
+    copied-all (copied-over begun last k (omega arith) (omega arith) (omega arith) now′ second) (omega arith)

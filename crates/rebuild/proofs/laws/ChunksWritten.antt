@@ -1,25 +1,24 @@
 -- A recipe's chunks that are written to the output one after another.
 use Prim.Native.Nat.{ℕ, _+_, _≤_, _<_}
 use native.Mathlib.Omega.{arith}
-use native.Mathlib.Nat.{zero-add}
 use mathlib.Core.Path.{_≡_, ap, _∙_}
 use mathlib.Core.List.{List, _++_}
 use lib.ListN.{length, getD, take, drop, length-append, length-take}
 use Rattle.store.specs.Memory.{chunkAt}
 use Rattle.rebuild.specs.Rebuilding.{rebuiltBytes}
-use Rattle.staging.specs.internal.Covered.{Covered}
-use Rattle.staging.proofs.laws.Parts.{Left, all-left, part-over, none-left}
+use Rattle.copying.specs.internal.Covered.{Covered}
+use Rattle.rebuild.proofs.laws.Parts.{Left, all-left, part-over, none-left}
 use Rattle.rebuild.proofs.laws.Recipes.{Counted, none-counted, one-counted, all-counted, one-rebuilt, none-rebuilt}
 
 -- the chunks of the numbers before place i are written, and those of the others are to follow from `at` on
 pub record Underway (pool directory recipe before now : List ℕ) (at i : ℕ) : Type 0 where
   pub counted : Counted pool directory recipe i at
-  pub left : Left before 0 (rebuiltBytes pool directory recipe) now at (rebuiltBytes pool directory (drop i recipe))
+  pub left : Left before (rebuiltBytes pool directory recipe) now at (rebuiltBytes pool directory (drop i recipe))
 
 -- no chunk is written yet
 pub none-written : {pool directory recipe output : List ℕ} → length (rebuiltBytes pool directory recipe) ≤ length output
     → Underway pool directory recipe output output 0 0
-none-written h = record { counted = none-counted; left = all-left (omega arith) }
+none-written h = record { counted = none-counted; left = all-left h }
 
 module _ {pool directory recipe before now : List ℕ} {at i : ℕ} (u : Underway pool directory recipe before now at i) where
   module _ (h : i < length recipe) (chunk : List ℕ) (e : chunk ≡ chunkAt pool directory (getD recipe i 0)) where
@@ -43,7 +42,7 @@ module _ {pool directory recipe before now : List ℕ} {at i : ℕ} (u : Underwa
         let rest = rebuiltBytes pool directory (drop (i + 1) recipe) in
         let few : length chunk ≤ length (w .bytes) =
         omega (arith, ap length (w .begins), length-take (length chunk) (w .bytes)) in
-        let left : Left before 0 (rebuiltBytes pool directory recipe) now at (take (length chunk) (w .bytes) ++ rest) =
+        let left : Left before (rebuiltBytes pool directory recipe) now at (take (length chunk) (w .bytes) ++ rest) =
         rw (w .begins, ← next) (u .left) in
         record {
           counted = one-counted (u .counted) (length chunk) h (ap length e);
@@ -56,4 +55,4 @@ module _ {pool directory recipe before now : List ℕ} {at i : ℕ} (u : Underwa
       → (at ≡ length (rebuiltBytes pool directory recipe)) × (now ≡ rebuiltBytes pool directory recipe ++ drop at before)
   all-written h =
       let size = all-counted (u .counted) h in
-      (size, rw size (rw zero-add at (none-left (rw (none-rebuilt pool directory recipe i h) at (u .left)))))
+      (size, rw size (none-left (rw (none-rebuilt pool directory recipe i h) at (u .left))))

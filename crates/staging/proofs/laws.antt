@@ -1,3 +1,0 @@
-pub mod Parts
-pub mod StagedParts
-pub mod Covering

@@ -1,2 +1,0 @@
--- Only contracts of this layer, and of rebuilding, cite what is here.
-pub mod internal
