@@ -25,6 +25,7 @@ mod memory;
 mod model;
 mod promise;
 mod random;
+mod rebuilding;
 mod scanner_calls;
 mod shrink;
 mod store_calls;
@@ -80,6 +81,7 @@ fn run(options: &Options, tally: &mut Tally) -> Result<(), String> {
     examples::run(tally)?;
     feeding::run(&mut random, amount(1_200_000), tally)?;
     calling::run(&mut random, amount(40_000), tally)?;
+    rebuilding::run(&mut random, tally)?;
     admitting::run(&mut random, amount(200_000), tally)?;
     promise::run(&mut random, amount(1_500), tally)?;
     if options.small {
