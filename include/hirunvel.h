@@ -20,10 +20,10 @@
  * that is given with it and reports the first that holds. HIRUNVEL_WINDOW is about the window that is passed, or the
  * first number of the scanner or the head.
  *
- * Link with libhirunvel.a, which is for x86-64 with the System V calling convention. It calls memmove and nothing else.
- * A call needs at most 1 KiB of stack, apart from what memmove needs; this is measured, not proved. The code uses the
- * SSE2 registers and the red zone, the 128 bytes below the stack pointer. So in a kernel or an interrupt handler, call
- * it only if these registers are saved and no interrupt uses the same stack.
+ * Link with libhirunvel.a, which is for x86-64 with the System V calling convention. It needs no other library, not even
+ * the C library. A call needs at most 1 KiB of stack; this is measured, not proved. The code uses the SSE2 registers and
+ * the red zone, the 128 bytes below the stack pointer. So in a kernel or an interrupt handler, call it only if these
+ * registers are saved and no interrupt uses the same stack.
  */
 #ifndef HIRUNVEL_H
 #define HIRUNVEL_H
