@@ -65,7 +65,7 @@ static void read_job(const char *name, struct job *job)
 }
 
 /* Admits a job. The charge is the bytes of its new chunks, those that the store did not hold. The saving is the length
- * less the charge and less 2 bytes for each number of the recipe. */
+ * less the charge and less 72 bytes for each packet of the recipe, which has a number for each chunk, 32 to a packet. */
 static void admit(struct job *job)
 {
     uint64_t counts[3];

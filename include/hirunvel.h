@@ -135,8 +135,9 @@ uint32_t hirunvel_store_open(uint32_t window, uint32_t head[3]);
  * Reads job. Writes head, the pool from the old filled to the new one, the directory entries of the new chunks, and
  * the first counts[0] numbers of the recipe; the rest of pool, directory and recipe is untouched. counts[0] is the
  * recipe's length, the job's number of chunks; counts[1] is the bytes of the new ones, counts[2] the bytes of the
- * repeated ones. saving[0] is job_len - counts[1] - 2 * counts[0], since a recipe number travels in 2 bytes; it can be
- * negative.
+ * repeated ones. saving[0] is job_len - counts[1] - 72 * packets, where packets is counts[0] / 32, rounded up: on the
+ * link a recipe number has 2 bytes, and each packet of up to 64 such bytes is charged at 72. The saving can be negative;
+ * it is at least -147456.
  * Refused: head is unchanged; counts[0], counts[1], counts[2] and saving[0] are 0. After HIRUNVEL_RECIPE_FULL,
  * HIRUNVEL_DIRECTORY_FULL and HIRUNVEL_POOL_FULL, pool, directory and recipe hold what the earlier chunks of the job
  * wrote: in the pool after filled, in the directory after the entries in use, and in the recipe. After the other

@@ -7,6 +7,10 @@ use crate::interface::{
     WINDOW_LIMIT,
 };
 
+/// The numbers that fill a packet of the link, 64 bytes of 2 each, and the bytes that it is charged at.
+const PACKET_NUMBERS: usize = 32;
+const PACKET_CHARGE: usize = 72;
+
 /// Ground 1 holds.
 pub fn window_refused(window: u32) -> bool {
     !(1..=WINDOW_LIMIT).contains(&window)
@@ -74,11 +78,12 @@ fn admit_chunks(
     let unused = numbers.len();
     let length = recipe.len() - unused;
     let new_bytes = filled - head.filled as usize;
+    let packets = length.div_ceil(PACKET_NUMBERS);
     head.chunks = chunks as u32;
     head.filled = filled as u32;
     Ok(Admitted {
         counts: [length, new_bytes, job.len() - new_bytes].map(|count| count as u64),
-        saving: job.len() as i64 - new_bytes as i64 - 2 * length as i64,
+        saving: job.len() as i64 - (new_bytes + PACKET_CHARGE * packets) as i64,
     })
 }
 

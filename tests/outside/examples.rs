@@ -1,4 +1,4 @@
-//! The jobs that the scope works by hand, with the answers that it gives.
+//! The jobs that the scope works by hand, with the answers that it gives, and recipes at the edges of a packet.
 
 use crate::call::compare;
 use crate::memory::{Lent, Store};
@@ -20,6 +20,18 @@ const CUT_LENGTHS: [(u32, &[u8], &[u64]); 9] = [
     (4, &[0x41; 12], &[5, 5]),
 ];
 
+/// The numbers of a recipe, and the packets in which they travel.
+const PACKETS: [(usize, i64); 8] = [
+    (1, 1),
+    (31, 1),
+    (32, 1),
+    (33, 2),
+    (64, 2),
+    (65, 3),
+    (65_504, 2_047),
+    (65_535, 2_048),
+];
+
 /// Checks all of them.
 pub fn run(tally: &mut Tally) -> Result<(), String> {
     for (window, job, lengths) in CUT_LENGTHS {
@@ -34,13 +46,18 @@ pub fn run(tally: &mut Tally) -> Result<(), String> {
         &store,
         &[3, 1, 2, 3, 1, 2, 7],
         &[0, 0, 1],
-        (4, 3, -3),
+        (4, 3, -69),
         tally,
     )?;
+    check_admission(&store, &[9], &[0], (1, 0, -72), tally)?;
     let old = [5, 1, 1, 9, 2, 3, 4];
     let revision = [6, 6, 1, 1, 9, 2, 3, 4];
-    let store = check_admission(&store, &old, &[0, 1, 2], (7, 0, -6), tally)?;
-    check_admission(&store, &revision, &[3, 4, 2], (7, 1, -5), tally).map(|_| ())
+    let store = check_admission(&store, &old, &[0, 1, 2], (7, 0, -72), tally)?;
+    check_admission(&store, &revision, &[3, 4, 2], (7, 1, -71), tally)?;
+    for (numbers, packets) in PACKETS {
+        check_packets(numbers, packets, tally)?;
+    }
+    Ok(())
 }
 
 /// Feeds a job whole and compares the lengths of its chunks that a cut ends.
@@ -81,4 +98,20 @@ fn check_admission(
         ));
     }
     Ok(after.store)
+}
+
+/// Admits a job of equal bytes that has this many chunks, the first of them new, and compares its saving.
+fn check_packets(numbers: usize, packets: i64, tally: &mut Tally) -> Result<(), String> {
+    let store = Store::new([1, 0, 0], &[7; 2], &[7; 2]);
+    let job = vec![5; 2 * numbers];
+    let recipe = Lent::new(&vec![8; numbers]);
+    let (refusal, after) = compare(&Admit::new(&store, &recipe, &job), tally)?;
+    let expected = job.len() as i64 - 2 - 72 * packets;
+    if refusal != ACCEPTED || after.counts[0] != numbers as u64 || after.saving[0] != expected {
+        let (counts, saving) = (&after.counts[..], after.saving[0]);
+        return Err(format!(
+            "{numbers} numbers should save {expected}: refusal {refusal}, counts {counts:?}, saving {saving}."
+        ));
+    }
+    Ok(())
 }

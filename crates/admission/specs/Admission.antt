@@ -1,9 +1,9 @@
 -- Admission: the answer and each lent list at exit.
-use Prim.Native.Nat.{ℕ, _+_, _*_}
+use Prim.Native.Nat.{ℕ}
 use mathlib.Core.Bool.{Bool, cond, _&&_}
 use mathlib.Core.List.{List, [], _∷_}
 use lib.Dec.{leb}
-use lib.IntN.{ℤ, pos, _-ℤ_}
+use lib.IntN.{pos}
 use lib.ListN.{length, take}
 use Rattle.refusal.specs.Number.{accepted}
 use Rattle.refusal.specs.Grounds.{unless, first}
@@ -14,6 +14,7 @@ use Rattle.chunker.specs.Chunks.{chunks}
 use Rattle.store.specs.declared.Head.{Head}
 use Rattle.store.specs.Limits.{jobLimit}
 use Rattle.store.specs.Grounds.{memoryGround, recipeGround, headGround}
+use Rattle.tariff.specs.Tariff.{savingOf}
 use Rattle.admission.specs.declared.Admitted.{Admitted}
 use Rattle.chunk_admission.specs.declared.Progress.{Progress}
 use Rattle.chunk_admission.specs.Snapshot.{Snapshot, Outcome, chunksOutcome}
@@ -36,10 +37,6 @@ admissionGround head pool directory recipe job =
     ∷ memoryGround pool directory
     ∷ headGround head pool directory
     ∷ [])
-
--- "job length − new bytes − 2 × recipe length, which can be negative"
-abbrev pub savingOf : ℕ → ℕ → ℕ → ℤ
-savingOf jobLength newBytes recipeLength = pos jobLength -ℤ pos (newBytes + 2 * recipeLength)
 
 -- "A refused admission hands the head back unchanged and all counts as 0"
 abbrev pub refused : Refusal → Head → Admitted

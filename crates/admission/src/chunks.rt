@@ -4,7 +4,7 @@ ghost use Prim.Native.Nat.{_≤_};
 ghost use lib.ListN.{length};
 ghost use Rattle.refusal.specs.declared.Refusal.the-variants.{Accepted};
 ghost use Rattle.chunker.specs.Chunks.{chunks};
-ghost use Rattle.store.specs.Limits.{recipeLimit, jobLimit};
+ghost use Rattle.store.specs.Limits.{jobLimit};
 ghost use Rattle.chunk_admission.specs.Snapshot.{chunksOutcome};
 ghost use Rattle.admission.specs.Admission.{admissionGround, refused, counted, begun, concluded};
 use crate::Admitted;
@@ -29,11 +29,8 @@ pub fn refused(refusal: Refusal, head: Head) -> Admitted
 // The new head and the counts of an accepted job.
 fn counted(head: Head, job_length: usize, progress: Progress) -> Admitted
     requires { ⌜ «job_length» ≤ jobLimit ⌝ }
-    requires { ⌜ progress .«new_bytes» ≤ jobLimit ⌝ }
-    requires { ⌜ progress .«recipe_length» ≤ recipeLimit ⌝ }
     ensures { λ r. ⌜ r ≡ counted head «job_length» progress ⌝ }
 {
-    let charged = progress.new_bytes + 2 * progress.recipe_length;
     let chunks = progress.chunks;
     let filled = progress.filled;
     Admitted {
@@ -46,7 +43,11 @@ fn counted(head: Head, job_length: usize, progress: Progress) -> Admitted
         recipe_length: progress.recipe_length,
         new_bytes: progress.new_bytes,
         repeated_bytes: progress.repeated_bytes,
-        saving: job_length as i64 - charged as i64,
+        saving: tariff::saving(
+            job_length as u32,
+            progress.new_bytes,
+            progress.recipe_length,
+        ),
     }
 }
 

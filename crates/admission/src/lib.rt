@@ -11,8 +11,8 @@ use store::Head;
 // The most bytes of a job.
 pub const JOB_LIMIT: usize = 16777216;
 
-// The new head, the recipe's length, the bytes of the new chunks and of the others, and the job's
-// length less the new bytes and 2 for each number of the recipe.
+// The new head, the recipe's length, the bytes of the new chunks and of the others, and what the job
+// saves on the link.
 pub struct Admitted {
     pub refusal: Refusal,
     pub head: Head,

@@ -40,6 +40,13 @@ pub const DIRECTORY_LIMIT: usize = 131_070;
 /// The most numbers of a recipe.
 pub const RECIPE_LIMIT: usize = 65_535;
 
+/// The bytes of a recipe number on the link.
+pub const NUMBER_BYTES: usize = 2;
+/// The bytes of recipe numbers that fill a packet.
+pub const PACKET_BYTES: usize = 64;
+/// The bytes that a packet is charged at.
+pub const PACKET_CHARGE: u64 = 72;
+
 /// Tells whether a window is one of those accepted.
 pub fn window_accepted(window: u32) -> bool {
     (1..=WINDOW_LIMIT).contains(&window)

@@ -49,8 +49,14 @@ pub fn admit(
     let new_bytes = u64::from(store.head[2] - before[2]);
     let job_length = job.len() as u64;
     counts.copy_from_slice(&[chunks.len() as u64, new_bytes, job_length - new_bytes]);
-    saving[0] = job_length as i64 - new_bytes as i64 - 2 * chunks.len() as i64;
+    let charged = new_bytes + PACKET_CHARGE * packets(&recipe[..chunks.len()]);
+    saving[0] = job_length as i64 - charged as i64;
     ACCEPTED
+}
+
+/// The packets in which the numbers of a recipe travel.
+fn packets(recipe: &[u32]) -> u64 {
+    recipe.chunks(PACKET_BYTES / NUMBER_BYTES).count() as u64
 }
 
 /// The lowest number of a chunk with these bytes.

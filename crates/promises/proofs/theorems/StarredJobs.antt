@@ -1,4 +1,5 @@
--- The starred jobs of the scope's section "Jobs worked by hand" as one table, with a last row that the section lacks.
+-- The starred jobs of the scope's section "Jobs worked by hand" as one table, with two rows that the section lacks: the
+-- one-byte job of the change request on packets, and the last.
 use Prim.Native.Nat.{ℕ, zero, suc, _+_, _-_, _<_, _≤_}
 use native.Mathlib.Omega.{arith}
 use native.Mathlib.Nat.{eq-or-lt-of-le}
@@ -19,6 +20,7 @@ use Rattle.store.specs.Memory.{chunksFrom}
 use Rattle.store.specs.Contents.{same, number}
 use Rattle.directory.specs.Layout.{laidOut}
 use Rattle.store.specs.Grounds.{fits, memoryAllowed, recipeAllowed}
+use Rattle.tariff.specs.Tariff.{packets, savingOf}
 use Rattle.admission.specs.Admission.{jobAllowed, admissionGround, admitted, recipeOf}
 use Rattle.chunk_admission.specs.Snapshot.{chunkGround, afterChunk, chunksOutcome}
 use Rattle.promises.specs.History.{Event, admission, State, start, outcome, leaves, before}
@@ -50,7 +52,7 @@ storeAfter w jobs = before (start w (replicate 32 0) (replicate 16 0)) (map hand
 unfoldable pub counts : ℕ → List (List ℕ) → List ℕ → Refusal × List ℕ × ℕ × ℕ × ℤ
 unfolding
     lengths windowAllowed chunks chunksFrom same number laidOut fits memoryAllowed recipeAllowed jobAllowed
-    chunkGround afterChunk chunksOutcome admissionGround admitted leaves before
+    chunkGround afterChunk chunksOutcome packets savingOf admissionGround admitted leaves before
 counts w jobs job =
     let o = outcome (storeAfter w jobs) job (replicate 8 0) in
     let a = o .answer in
@@ -91,10 +93,11 @@ rows =
     ∷ cutting 2 (1 ∷ 2 ∷ 3 ∷ 4 ∷ []) ([], 4)
     ∷ cutting 1 rising ([], 256)
     ∷ cutting 1 (rising ++ (0 ∷ [])) (257 ∷ [], 0)
-    ∷ admitting 2 [] (3 ∷ 1 ∷ 2 ∷ 3 ∷ 1 ∷ 2 ∷ 7 ∷ []) (Accepted, 0 ∷ 0 ∷ 1 ∷ [], 4, 3, negsuc 2)
-    ∷ admitting 2 [] (5 ∷ 1 ∷ 1 ∷ 9 ∷ 2 ∷ 3 ∷ 4 ∷ []) (Accepted, 0 ∷ 1 ∷ 2 ∷ [], 7, 0, negsuc 5)
+    ∷ admitting 2 [] (3 ∷ 1 ∷ 2 ∷ 3 ∷ 1 ∷ 2 ∷ 7 ∷ []) (Accepted, 0 ∷ 0 ∷ 1 ∷ [], 4, 3, negsuc 68)
+    ∷ admitting 2 [] (9 ∷ []) (Accepted, 0 ∷ [], 1, 0, negsuc 71)
+    ∷ admitting 2 [] (5 ∷ 1 ∷ 1 ∷ 9 ∷ 2 ∷ 3 ∷ 4 ∷ []) (Accepted, 0 ∷ 1 ∷ 2 ∷ [], 7, 0, negsuc 71)
     ∷ admitting 2 ((5 ∷ 1 ∷ 1 ∷ 9 ∷ 2 ∷ 3 ∷ 4 ∷ []) ∷ []) (6 ∷ 6 ∷ 1 ∷ 1 ∷ 9 ∷ 2 ∷ 3 ∷ 4 ∷ [])
-    (Accepted, 3 ∷ 4 ∷ 2 ∷ [], 7, 1, negsuc 4)
+    (Accepted, 3 ∷ 4 ∷ 2 ∷ [], 7, 1, negsuc 70)
     ∷ kept 2 (1 ∷ 1 ∷ 9 ∷ 2 ∷ 3 ∷ 4 ∷ []) 3
     ∷ cutting 2 (9 ∷ 1 ∷ 9 ∷ 2 ∷ 3 ∷ []) (3 ∷ [], 2)
     ∷ notKept 2 (9 ∷ 1 ∷ 9 ∷ 2 ∷ 3 ∷ []) 3
@@ -151,6 +154,7 @@ starred =
     and refl
     and refl
     and tie-peak
+    and refl
     and refl
     and refl
     and refl

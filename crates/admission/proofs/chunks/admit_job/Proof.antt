@@ -177,9 +177,7 @@ loop-again c =
     )
 
 counted-requires : tie.Need-counted-requires Inv-loop μ-loop
-counted-requires c κs =
-    let a = c .before .loop .inv .0 in
-    (a .short, (omega (arith, a .counts, a .within, a .short), omega (arith, a .used, a .recipe)))
+counted-requires c κs = c .before .loop .inv .0 .short
 
 same-length-4 : tie.Need-same-length-4 Inv-loop μ-loop
 same-length-4 c = c .before .before .loop .inv .1

@@ -1,35 +1,23 @@
 -- `admission::chunks::counted` meets its contract.
-use Prim.Native.Nat.{_+_, _*_}
-use native.Mathlib.Omega.{arith}
-use mir.Facts.{toZ-ofZ}
-use Rattle.admission.proofs.laws.chunks.Saving.{same-difference, saving-fits}
+use mathlib.Core.Path.{_≡_}
+use mir.Syntax.{w64}
+use mir.Val.{toZ, ofZ}
 use borrow.Author.Needs.{needs}
 use Rattle.admission.proofs.chunks.counted.Statement.{statement}
 use Rattle.admission.proofs.chunks.counted.Tie as tie
 
-mul-charged : tie.Need-mul-charged
-mul-charged c = search needs
+cast-saving : tie.Need-cast-saving
+cast-saving c = search needs
 
-add-charged : tie.Need-add-charged
-add-charged c = search needs
+saving-requires : tie.Need-saving-requires
+saving-requires c κs = search needs
 
-cast-t10 : tie.Need-cast-t10
-cast-t10 c = search needs
-
-cast-t11 : tie.Need-cast-t11
-cast-t11 c = search needs
-
-sub-t12 : tie.Need-sub-t12
-sub-t12 c =
-    let a = c .before .before .before .before .args in
-    let charged = a .progress .«new_bytes» + 2 * a .progress .«recipe_length» in
-    saving-fits (a .job-length) charged (omega arith) (omega arith)
+-- the saving is kept whole in its 64 bits
+kept : (c : tie.After-saving) → toZ w64 (ofZ w64 (c .saving .result)) ≡ c .saving .result
+kept c = search needs
 
 returns : tie.Need-returns
-returns c =
-    let a = c .before .before .before .before .args in
-    let charged = a .progress .«new_bytes» + 2 * a .progress .«recipe_length» in
-    rw (toZ-ofZ (sub-t12 c), same-difference (a .job-length) charged (omega arith) (omega arith))
+returns c = rw (kept c, c .saving .ensures)
 
 pub counted-spec : {M : Type 1} → statement M
-counted-spec = tie.close (tie.spec mul-charged add-charged cast-t10 cast-t11 sub-t12 returns)
+counted-spec = tie.close (tie.spec cast-saving saving-requires returns)
