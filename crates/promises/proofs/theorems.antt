@@ -1,4 +1,5 @@
 pub mod FirstAppearances
+pub mod Saving
 pub mod NumbersStay
 pub mod GivesBack
 pub mod Promise

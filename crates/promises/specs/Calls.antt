@@ -9,6 +9,7 @@ use lib.ListN.{length, take, drop, getD}
 use Rattle.chunker.specs.Chunks.{chunks}
 use Rattle.promises.specs.History.{Event, admission, reading, eventAt}
 use Rattle.promises.specs.FirstAppearances.{FirstAppearances}
+use Rattle.promises.specs.Saving.{jobSaving}
 use Rattle.promises.specs.Promise.{Promised}
 use Rattle.hirunvel.specs.Storing.{StoreAdmission, storeOpened, storeAdmitted}
 use Rattle.hirunvel.specs.Rebuilding.{JobRebuilding, jobRebuilt}
@@ -72,6 +73,11 @@ abbrev pub Counts : ℕ → Memory → List Event → ℕ → List ℕ → List 
 Counts w m calls i job recipe =
     let c = callAt m calls i job recipe in
     FirstAppearances w (chunksBefore m calls w i) job (chargeOf c) (getD (c .counts) 2 0)
+
+-- "Saving becomes job length − new bytes − 72 × packets": saving[0]
+abbrev pub Saves : ℕ → Memory → List Event → ℕ → List ℕ → List ℕ → Type 0
+Saves w m calls i job recipe =
+    callAt m calls i job recipe .saving ≡ jobSaving w (chunksBefore m calls w i) job ∷ []
 
 -- demand 2: "the recipe of each accepted job, given a long enough output, gives back that job's bytes"
 pub record GivesBack (job output : List ℕ) (r : JobRebuilding) : Type 0 where

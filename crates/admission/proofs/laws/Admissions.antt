@@ -14,6 +14,7 @@ use Rattle.store.specs.declared.Head.{Head}
 use Rattle.store.specs.Grounds.{fits}
 use Rattle.store.specs.Memory.{contents}
 use Rattle.store.specs.Contents.{number, grown, gained}
+use Rattle.tariff.specs.Tariff.{savingOf}
 use Rattle.admission.specs.Admission.{Admission, admissionGround, begun, admitted, recipeOf}
 use Rattle.store.proofs.laws.grounds.Fitting.{fits-facts}
 use Rattle.chunk_admission.proofs.laws.Writing.{same-fits, same-contents}
@@ -33,6 +34,8 @@ pub record Added (head : Head) (pool directory job : List ℕ) (a : Admission) :
       (chunks (head .window) job)
   pub new : a .answer .«new_bytes» ≡ gained (contents pool directory (head .chunks .0)) (chunks (head .window) job)
   pub all : a .answer .«new_bytes» + a .answer .«repeated_bytes» ≡ length job
+  pub saving : a .answer .saving
+      ≡ savingOf (length job) (a .answer .«new_bytes») (length (chunks (head .window) job))
 
 -- a refused one adds nothing
 pub record Kept (head : Head) (pool directory : List ℕ) (a : Admission) : Type 0 where
@@ -65,6 +68,7 @@ module _ (head : Head) (pool directory recipe job : List ℕ) (fitting : fits he
             recipe = t .recipe ∙ ap (λ held. map (number held) cs) (t .held);
             new = omega arith;
             all = omega (arith, total-chunks (head .window) job);
+            saving = ap (savingOf (length job) _) (omega (arith, t .counted));
           })
       by-tests true false p q =
           absurd (false≢true (sym q ∙ rw (admitted-concluded head pool directory recipe job p, q) at h))

@@ -15,7 +15,7 @@ use Rattle.chunk_admission.specs.Snapshot.{Snapshot, chunkGround, afterChunk, c
 use Rattle.store.proofs.laws.grounds.Fitting.{fits-facts}
 use Rattle.chunk_admission.proofs.laws.OneChunk.{Chunked, refuses, repeats, stores, chunked}
 use Rattle.admission.proofs.laws.chunks.AllChunks.{chunks-keep}
-use Rattle.admission.proofs.laws.grounds.Passed.{all-passed}
+use Rattle.admission.proofs.laws.grounds.Passed.{Passed, all-passed}
 
 -- one chunk and those after it, by what becomes of the chunk
 recipe-step : (f : Snapshot) (c : List ℕ) (cs : List (List ℕ)) (ground : Refusal) (g : Snapshot) → Chunked f c ground g
@@ -72,13 +72,15 @@ module _ (head : Head) (pool directory recipe job : List ℕ) where
   ground-accepted true e h = e
   ground-accepted false e h = h
 
+  pub accepted-passed : accepted (admitted head pool directory recipe job .answer .refusal) ≡ true
+      → Passed head pool directory recipe job
+  unfolding admitted
+  accepted-passed h = all-passed head pool directory recipe job (ground-accepted _ refl h)
+
   -- so ground 4 does not hold of what it was lent
   pub within-limits : accepted (admitted head pool directory recipe job .answer .refusal) ≡ true
       → (memoryAllowed pool directory ≡ true) × (recipeAllowed recipe ≡ true)
-  unfolding admitted
-  within-limits h =
-      let all = all-passed head pool directory recipe job (ground-accepted _ refl h) in
-      (all .storeMemory, all .recipeMemory)
+  within-limits h = let all = accepted-passed h in (all .storeMemory, all .recipeMemory)
 
 -- the limits of pool and directory depend on their lengths only
 pub memory-allowed-same : (pool directory pool′ directory′ : List ℕ) → length pool′ ≡ length pool

@@ -14,6 +14,7 @@ use Rattle.store.specs.Grounds.{fits}
 use Rattle.store.proofs.laws.grounds.Fitting.{fresh-fits}
 use Rattle.store.specs.Memory.{chunksFrom}
 use Rattle.store.proofs.laws.contents.Growth.{Among, grown-keeps, grown-has, grown-append, numbers-grown}
+use Rattle.tariff.specs.Tariff.{savingOf}
 use Rattle.admission.specs.Admission.{recipeOf}
 use Rattle.admission.proofs.laws.Admissions.{adds, keeps}
 use Rattle.admission.proofs.laws.Lengths.{as-long}
@@ -134,6 +135,8 @@ pub record AddedAt (w : ℕ) (s : State) (events : List Event) (i : ℕ) (job re
   pub all :
       outcomeAt s events i job recipe .answer .«new_bytes» + outcomeAt s events i job recipe .answer .«repeated_bytes»
       ≡ length job
+  pub saving : outcomeAt s events i job recipe .answer .saving
+      ≡ savingOf (length job) (outcomeAt s events i job recipe .answer .«new_bytes») (length (chunks w job))
 
 -- a recipe names a job's chunks: the store holds them, and the recipe is their numbers
 pub record Named (w : ℕ) (t : State) (job recipe : List ℕ) : Type 0 where
@@ -158,6 +161,7 @@ module _ (s : State) (f : Fitting s) (events : List Event) (b : AllBytes events)
         numbers = rw (left, held) (rw (g .window) at (d .recipe));
         new = rw (g .window) at (d .new);
         all = d .all;
+        saving = rw (g .window) at (d .saving);
       }
 
   -- its recipe names the job's chunks at each later place

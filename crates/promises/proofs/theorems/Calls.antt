@@ -1,4 +1,4 @@
--- Demands 2 and 3 of a C program's calls on one store.
+-- Demands 2 and 3, and the saving, of a C program's calls on one store.
 use Prim.Native.Nat.{ℕ, zero, suc, _+_, _≤_, _<_}
 use native.Mathlib.Omega.{arith}
 use mathlib.Core.Path.{_≡_, refl, ap, ap₂, sym, _∙_}
@@ -16,12 +16,13 @@ use Rattle.promises.specs.History as history
 use Rattle.promises.specs.History.{Event, admission, reading, State, start, eventAt, AcceptedAt, BytesIn, AllBytes}
 use Rattle.promises.proofs.laws.Events.{Fitting, grows, start-fits, bytes-in}
 use Rattle.promises.proofs.theorems.FirstAppearances.{first-appearances}
+use Rattle.promises.proofs.theorems.Saving.{saves}
 use Rattle.promises.proofs.theorems.GivesBack.{gives-back}
 use Rattle.promises.proofs.theorems.Promise.{promise}
 use Rattle.numbers.specs.Storing.{headNumbers}
 use Rattle.hirunvel.specs.Storing.{storeOpened, storeAdmitted}
 use Rattle.hirunvel.specs.Rebuilding.{jobRebuilt}
-use Rattle.promises.specs.Calls.{Memory, opened, call, leaves, chunksOf, before, chunksBefore, callAt, AcceptedCall, recipeOf, Counts, GivesBack, rebuild, PromisedCalls}
+use Rattle.promises.specs.Calls.{Memory, opened, call, leaves, chunksOf, before, chunksBefore, callAt, AcceptedCall, recipeOf, Counts, Saves, GivesBack, rebuild, PromisedCalls}
 
 -- a store's state as a C program keeps it
 abbrev pub memoryOf : State → Memory
@@ -103,6 +104,13 @@ module _ (w : ℕ) (allowed : storeOpened w .refusal ≡ 0) (pool directory : Li
       let first = first-appearances w pool directory calls b i job recipe (accepted-at i job recipe a) in
       let here = calls-history i in
       record { first = rw (here, chunks-before i) (first .first); all = rw here (first .all) }
+
+  -- the saving is the tariff's, of the first appearances and of a number for each chunk
+  pub saved : (i : ℕ) (job recipe : List ℕ) → AcceptedCall m calls i job recipe → Saves w m calls i job recipe
+  unfolding storeAdmitted
+  saved i job recipe a =
+      let e = saves w pool directory calls b i job recipe (accepted-at i job recipe a) in
+      rw (calls-history i, chunks-before i) (ap (λ z. z ∷ []) e)
 
   -- demand 2: after any later call, the recipe that an accepted call left gives the job back
   pub rebuilds : (i : ℕ) (job recipe : List ℕ) → AcceptedCall m calls i job recipe → (j : ℕ) → i < j
