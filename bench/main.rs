@@ -10,6 +10,7 @@ mod hirunvel;
 mod interface;
 mod library;
 mod limits;
+mod link;
 mod plain;
 mod rebuilding;
 mod sse2;
@@ -47,12 +48,13 @@ type Measure<'a> = Box<dyn FnOnce(Duration) -> Report + 'a>;
 /// A part of the run: its name, what prepares it and compares its contestants' results, and the seconds to measure.
 type Part = (&'static str, fn(&Inputs) -> Measure<'_>, u64);
 
-const PARTS: [Part; 5] = [
+const PARTS: [Part; 6] = [
     ("feeding", feeding::prepare, 45),
     ("limits", limits::prepare, 4),
     ("admission", admission::prepare, 30),
     ("rebuilding", rebuilding::prepare, 8),
     ("growth", growth::prepare, 75),
+    ("link", link::prepare, 0),
 ];
 
 /// The arguments: the inputs' folder; then the parts to run, all if none is named; and `quick` for a tenth of the time.
