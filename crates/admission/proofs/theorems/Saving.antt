@@ -19,21 +19,16 @@ use Rattle.admission.specs.Admission.{admitted}
 use Rattle.admission.proofs.laws.Admissions.{adds}
 use Rattle.admission.proofs.laws.Lengths.{as-long, accepted-passed}
 
-module _ (head : Head) (pool directory recipe job : List ℕ) (bytes : Bytes job)
-    (h : accepted (admitted head pool directory recipe job .answer .refusal) ≡ true) where
-  -- as many chunks as the recipe gets numbers, which are no more than it has room for
-  few-chunks : length (chunks (head .window) job) ≤ recipeLimit
-  unfolding recipeAllowed
-  few-chunks =
-      let passed = accepted-passed head pool directory recipe job h in
-      let added = adds head pool directory recipe job (passed .fitting) bytes h in
-      let numbers = simp (length-take, length-map) at (ap length (added .recipe)) in
-      let long = as-long head pool directory recipe job (passed .fitting) in
-      omega (arith, numbers, long .recipeLength, leb-true (length recipe) recipeLimit (passed .recipeMemory))
-
-  -- a saving is at least −147,456: the charge of 2,048 packets, in which 65,535 numbers travel
-  pub least-saving : negsuc 147455 ≤ℤ admitted head pool directory recipe job .answer .saving
-  least-saving =
-      let passed = accepted-passed head pool directory recipe job h in
-      let added = adds head pool directory recipe job (passed .fitting) bytes h in
-      rw (added .saving) (at-least (length job) _ _ (omega (arith, added .all)) few-chunks)
+-- a recipe has at most 65,535 numbers, which travel in 2,048 packets: a saving is at least −147,456
+pub least-saving : (head : Head) (pool directory recipe job : List ℕ) → Bytes job
+    → accepted (admitted head pool directory recipe job .answer .refusal) ≡ true
+    → negsuc 147455 ≤ℤ admitted head pool directory recipe job .answer .saving
+unfolding recipeAllowed
+least-saving head pool directory recipe job bytes h =
+    let passed = accepted-passed head pool directory recipe job h in
+    let added = adds head pool directory recipe job (passed .fitting) bytes h in
+    let long = as-long head pool directory recipe job (passed .fitting) in
+    let room = leb-true (length recipe) recipeLimit (passed .recipeMemory) in
+    let numbers = simp (length-take, length-map) at (ap length (added .recipe)) in
+    let few : length (chunks (head .window) job) ≤ recipeLimit = omega (arith, numbers, long .recipeLength, room) in
+    rw (added .saving) (at-least (length job) _ _ (omega (arith, added .all)) few)
