@@ -15,6 +15,7 @@ use crate::tally::Tally;
 pub fn run(random: &mut Random, tally: &mut Tally) -> Result<(), String> {
     longest_jobs(random, tally)?;
     longest_recipes(random, tally)?;
+    least_saving(tally)?;
     longest_pools(random, tally)?;
     longest_directories(random, tally)?;
     longest_chunks(tally)?;
@@ -112,6 +113,19 @@ fn longest_recipes(random: &mut Random, tally: &mut Tally) -> Result<(), String>
         wrong[RECIPE_LIMIT - 1] = store.chunks();
         rebuild(store, &wrong, job.len(), CHUNK_NUMBER, tally)?;
         rebuild(store, &wrong, 10, CHUNK_NUMBER, tally)?;
+    }
+    Ok(())
+}
+
+/// A job of 65,535 chunks of three bytes, all of them new: no job saves less.
+fn least_saving(tally: &mut Tally) -> Result<(), String> {
+    let chunk = |i: usize| [i % 128 + 128, i / 128 % 128, i / 16_384].map(|byte| byte as u8);
+    let job: Vec<u8> = (0..RECIPE_LIMIT).flat_map(chunk).collect();
+    let fresh = Store::new([2, 0, 0], &used(job.len()), &used(DIRECTORY_LIMIT));
+    let saving = admit(&fresh, RECIPE_LIMIT, &job, ACCEPTED, tally)?.saving[0];
+    let least = -147_456;
+    if saving != least {
+        return Err(format!("65,535 new chunks save {saving}, not {least}."));
     }
     Ok(())
 }
