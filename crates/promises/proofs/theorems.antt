@@ -2,6 +2,7 @@ pub mod FirstAppearances
 pub mod Saving
 pub mod NumbersStay
 pub mod GivesBack
+pub mod SeveralFields
 pub mod Promise
 pub mod StarredJobs
 pub mod Windows

@@ -109,12 +109,11 @@ gained-most held (c ∷ cs) =
       | false ↦ omega arith
     ]
 
--- where the first and the last of some chunks are held, only those between them add bytes
-pub gained-between : (held xs ys zs : List (List ℕ)) → Among xs held → Among zs held
-    → gained held (xs ++ (ys ++ zs)) ≤ total ys
-gained-between held xs ys zs a b =
-    let none = gained-none (grown held ys) zs (λ c h. grown-keeps held ys c (b c h)) in
-    rw (gained-append held xs (ys ++ zs), grown-none held xs a, gained-none held xs a, gained-append held ys zs, none)
+-- where the first of some chunks are held, only those after them add bytes: some no more than their own, then the rest
+pub gained-past : (held xs ys zs : List (List ℕ)) → Among xs held
+    → gained held (xs ++ (ys ++ zs)) ≤ total ys + gained (grown held ys) zs
+gained-past held xs ys zs a =
+    rw (gained-append held xs (ys ++ zs), grown-none held xs a, gained-none held xs a, gained-append held ys zs)
     (omega (arith, gained-most held ys))
 
 -- a store grows at its end only, by one chunk
