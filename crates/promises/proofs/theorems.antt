@@ -4,6 +4,7 @@ pub mod NumbersStay
 pub mod GivesBack
 pub mod SeveralFields
 pub mod Promise
+pub mod LastField
 pub mod StarredJobs
 pub mod Windows
 pub mod Witnesses
