@@ -1,5 +1,5 @@
--- Demands 2 and 3, and the saving, of a C program's calls on one store.
-use Prim.Native.Nat.{ℕ, zero, suc, _+_, _≤_, _<_}
+-- Demands 2 and 3, the ceiling of several fields and the saving, of a C program's calls on one store.
+use Prim.Native.Nat.{ℕ, zero, suc, _≤_, _<_}
 use native.Mathlib.Omega.{arith}
 use mathlib.Core.Path.{_≡_, refl, ap, ap₂, sym, _∙_}
 use mathlib.Core.Bool.{Bool, true, false, cond}
@@ -15,14 +15,17 @@ use Rattle.admission.proofs.laws.Admissions.{keeps}
 use Rattle.promises.specs.History as history
 use Rattle.promises.specs.History.{Event, admission, reading, State, start, eventAt, AcceptedAt, BytesIn, AllBytes}
 use Rattle.promises.proofs.laws.Events.{Fitting, grows, start-fits, bytes-in}
+use Rattle.promises.proofs.laws.Fields.{old-joined, revision-joined}
+use Rattle.promises.specs.Fields.{Field, oldJob, revision, AllKept, ceilingOf, joined}
 use Rattle.promises.proofs.theorems.FirstAppearances.{first-appearances}
 use Rattle.promises.proofs.theorems.Saving.{saves}
 use Rattle.promises.proofs.theorems.GivesBack.{gives-back}
+use Rattle.promises.proofs.theorems.SeveralFields.{several-fields}
 use Rattle.promises.proofs.theorems.Promise.{promise}
 use Rattle.numbers.specs.Storing.{headNumbers}
 use Rattle.hirunvel.specs.Storing.{storeOpened, storeAdmitted}
 use Rattle.hirunvel.specs.Rebuilding.{jobRebuilt}
-use Rattle.promises.specs.Calls.{Memory, opened, call, leaves, chunksOf, before, chunksBefore, callAt, AcceptedCall, recipeOf, Counts, Saves, GivesBack, rebuild, PromisedCalls}
+use Rattle.promises.specs.Calls.{Memory, opened, call, leaves, chunksOf, before, chunksBefore, callAt, AcceptedCall, recipeOf, chargeOf, Counts, Saves, GivesBack, rebuild, PromisedCalls}
 
 -- a store's state as a C program keeps it
 abbrev pub memoryOf : State → Memory
@@ -140,3 +143,26 @@ module _ (w : ℕ) (allowed : storeOpened w .refusal ≡ 0) (pool directory : Li
         sameNumbers = rw (here, there) (p .sameNumbers);
         equallyMany = rw here (p .equallyMany);
       }
+
+  -- several changed fields: of every two accepted calls and each division into fields
+  pub several-fields-called : (i j : ℕ) → i < j → (opening : List ℕ) (fields : List Field) (oldRecipe newRecipe : List ℕ)
+      → AcceptedCall m calls i (oldJob opening fields) oldRecipe
+      → AcceptedCall m calls j (revision opening fields) newRecipe
+      → AllKept w fields → chargeOf (callAt m calls j (revision opening fields) newRecipe) ≤ ceilingOf w fields
+  unfolding storeAdmitted
+  several-fields-called i j l opening fields oldRecipe newRecipe old new kept =
+      rw (calls-history j)
+      (several-fields w pool directory calls b i j l opening fields oldRecipe newRecipe
+      (accepted-at i _ oldRecipe old) (accepted-at j _ newRecipe new) kept)
+
+  -- what lines up after the last of them
+  pub last-field-called : (i j : ℕ) → i < j
+      → (opening : List ℕ) (fields : List Field) (last : Field) (oldRecipe newRecipe : List ℕ)
+      → AcceptedCall m calls i (oldJob opening (fields ++ (last ∷ []))) oldRecipe
+      → AcceptedCall m calls j (revision opening (fields ++ (last ∷ []))) newRecipe
+      → KeptMaximum w (last .kept) (last .place)
+      → PromisedCalls w m calls i j opening (joined fields last .replaced) (joined fields last .changed) (last .kept)
+      oldRecipe newRecipe (last .place)
+  last-field-called i j l opening fields last oldRecipe newRecipe old new kept =
+      promised i j l opening (joined fields last .replaced) (joined fields last .changed) (last .kept) oldRecipe newRecipe
+      (rw (old-joined opening fields last) at old) (rw (revision-joined opening fields last) at new) (last .place) kept
