@@ -8,6 +8,7 @@ pub mod LastField
 pub mod StarredJobs
 pub mod Windows
 pub mod Witnesses
+pub mod FieldWitnesses
 pub mod EqualTail
 pub mod Calls
 pub mod FeedCalls
