@@ -9,6 +9,7 @@ pub mod StarredJobs
 pub mod Windows
 pub mod Witnesses
 pub mod FieldWitnesses
+pub mod FieldPremises
 pub mod EqualTail
 pub mod Calls
 pub mod FeedCalls
