@@ -2,7 +2,8 @@
 
 use crate::call::compare;
 use crate::memory::{Lent, Store};
-use crate::model::{chunks, ACCEPTED, OUTPUT_SHORT};
+use crate::model::{chunks, ACCEPTED, OUTPUT_SHORT, RECIPE_LIMIT};
+use crate::random::Random;
 use crate::shrink::{shorter, smaller_bytes, without_block, Case, Smaller};
 use crate::store_calls::{Admit, Look, Rebuild, StoreOpen};
 use crate::tally::Tally;
@@ -15,6 +16,22 @@ pub struct Step {
     pub recipe: Lent<u32>,
 }
 
+impl Step {
+    /// An admission of a job; in some cases the recipe memory is too short for it or over the
+    /// limit.
+    pub fn random(random: &mut Random, job: &[u8]) -> Self {
+        let places = match random.below(200) {
+            0 => RECIPE_LIMIT + 1,
+            1..=20 => random.below(100),
+            _ => job.len(),
+        };
+        Step {
+            job: Lent::new(job),
+            recipe: Lent::new(&random.numbers(places)),
+        }
+    }
+}
+
 /// Admissions to a store that starts with a fresh head and with a pool and a directory of any
 /// contents.
 #[derive(Clone, Debug)]
@@ -25,9 +42,10 @@ pub struct History {
     pub steps: Vec<Step>,
 }
 
-/// A job that was accepted, with the recipe that its admission left and the bytes of its new
-/// chunks.
+/// A job that was accepted at a step, counted from 0, with the recipe that its admission left and
+/// the bytes of its new chunks.
 pub struct Accepted<'a> {
+    pub step: usize,
     pub job: &'a [u8],
     pub recipe: Vec<u32>,
     pub new_bytes: u64,
@@ -37,6 +55,29 @@ pub struct Accepted<'a> {
 type Appearances<'a> = HashMap<&'a [u8], u32>;
 
 impl History {
+    /// These admissions to a store of so many pool bytes and directory entries, in some cases of
+    /// fewer.
+    pub fn random(
+        random: &mut Random,
+        window: u32,
+        (pool, entries): (usize, usize),
+        steps: Vec<Step>,
+    ) -> Self {
+        let [pool, entries] = [(pool, pool / 3), (entries, entries / 6)].map(|(most, few)| {
+            if random.once_in(5) {
+                random.below(few)
+            } else {
+                most
+            }
+        });
+        History {
+            window,
+            pool: Lent::new(&random.bytes(pool)),
+            directory: Lent::new(&random.numbers(2 * entries)),
+            steps,
+        }
+    }
+
     /// Makes the admissions, compares each with the model and with the chunks' first appearances,
     /// and rebuilds every accepted job at the end. Gives the accepted jobs.
     pub fn run(&self, tally: &mut Tally) -> Result<Vec<Accepted<'_>>, String> {
@@ -48,11 +89,12 @@ impl History {
         };
         let mut appearances = Appearances::new();
         let mut accepted = Vec::new();
-        for step in &self.steps {
+        for (index, step) in self.steps.iter().enumerate() {
             let (refusal, after) = compare(&Admit::new(&store, &step.recipe, &step.job), tally)?;
             if refusal == ACCEPTED {
                 check_appearances(&mut appearances, self.window, &step.job, &after)?;
                 accepted.push(Accepted {
+                    step: index,
                     job: &step.job,
                     recipe: after.written_recipe().to_vec(),
                     new_bytes: after.counts[1],

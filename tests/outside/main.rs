@@ -14,6 +14,7 @@ mod call;
 mod calling;
 mod examples;
 mod feeding;
+mod fields;
 mod forging;
 #[path = "../../include/hirunvel.rs"]
 mod hirunvel;
@@ -84,6 +85,7 @@ fn run(options: &Options, tally: &mut Tally) -> Result<(), String> {
     rebuilding::run(&mut random, tally)?;
     admitting::run(&mut random, amount(200_000), tally)?;
     promise::run(&mut random, amount(1_500), tally)?;
+    fields::run(&mut random, amount(1_000), tally)?;
     if options.small {
         return Ok(());
     }

@@ -4,7 +4,7 @@
 use crate::history::{Accepted, History, Step};
 use crate::jobs;
 use crate::memory::Lent;
-use crate::model::{chunks, RECIPE_LIMIT};
+use crate::model::chunks;
 use crate::random::Random;
 use crate::shrink::{hold, Case, Smaller};
 use crate::tally::Tally;
@@ -30,28 +30,30 @@ struct Division<'a> {
 
 impl Case for Revisions {
     fn check(&self, tally: &mut Tally) -> Result<(), String> {
-        let accepted = self.0.run(tally)?;
-        let window = self.0.window;
-        let jobs: Vec<Cut> = accepted
-            .iter()
-            .map(|accepted| Cut {
-                accepted,
-                cuts: chunks::cuts(window, accepted.job),
-            })
-            .collect();
-        for later in 1..jobs.len() {
-            for earlier in 0..later {
-                check_pair(window as usize, &jobs[earlier], &jobs[later], tally).map_err(
-                    |fault| format!("Accepted jobs {earlier} and {later}, from 0: {fault}"),
-                )?;
-            }
-        }
-        Ok(())
+        check_pairs(self.0.window, &self.0.run(tally)?, tally)
     }
 
     fn smaller(&self) -> Smaller<'_, Self> {
         Box::new(self.0.smaller_histories().map(Revisions))
     }
+}
+
+/// Checks demand 3 for every two of the accepted jobs.
+pub fn check_pairs(window: u32, accepted: &[Accepted], tally: &mut Tally) -> Result<(), String> {
+    let jobs: Vec<Cut> = accepted
+        .iter()
+        .map(|accepted| Cut {
+            accepted,
+            cuts: chunks::cuts(window, accepted.job),
+        })
+        .collect();
+    for later in 1..jobs.len() {
+        for earlier in 0..later {
+            check_pair(window as usize, &jobs[earlier], &jobs[later], tally)
+                .map_err(|fault| format!("Accepted jobs {earlier} and {later}, from 0: {fault}"))?;
+        }
+    }
+    Ok(())
 }
 
 /// Checks demand 3 for some of the divisions of two jobs, the one with the longest ending among
@@ -139,7 +141,7 @@ impl Division<'_> {
 
 /// Tells whether the byte at a place of the ending, counted from 1, is larger than each of the
 /// `window` bytes before it and no smaller than each of the `window` bytes after it.
-fn qualifies(window: usize, ending: &[u8], place: usize) -> bool {
+pub fn qualifies(window: usize, ending: &[u8], place: usize) -> bool {
     let byte = ending[place - 1];
     ending[place - 1 - window..place - 1]
         .iter()
@@ -196,31 +198,16 @@ fn history(random: &mut Random) -> History {
     let mut parts = parts(random, window);
     let mut steps = Vec::new();
     for _ in 0..3 + random.below(4) {
-        steps.push(step(random, &parts.concat()));
+        steps.push(Step::random(random, &parts.concat()));
         if random.once_in(3) {
             let length = random.pick(&[0, 10, 900]);
             let between = jobs::job(random, window, length);
-            steps.push(step(random, &between));
+            steps.push(Step::random(random, &between));
         }
         let changed = random.pick(&[0, 2, 2, 2, 3]);
         parts[changed] = self::parts(random, window)[changed].clone();
     }
-    let pool = if random.once_in(5) {
-        random.below(4_000)
-    } else {
-        12_000
-    };
-    let entries = if random.once_in(5) {
-        random.below(1_000)
-    } else {
-        6_000
-    };
-    History {
-        window,
-        pool: Lent::new(&random.bytes(pool)),
-        directory: Lent::new(&random.numbers(2 * entries)),
-        steps,
-    }
+    History::random(random, window, (12_000, 6_000), steps)
 }
 
 /// The parts of a job of over 600 bytes: any bytes, a rise as long as a chunk can be without a cut,
@@ -236,17 +223,4 @@ fn parts(random: &mut Random, window: u32) -> [Vec<u8>; 4] {
         random.bytes(stretch),
         jobs::job(random, window, ending),
     ]
-}
-
-/// An admission of a job; in some cases the recipe memory is too short for it or over the limit.
-fn step(random: &mut Random, job: &[u8]) -> Step {
-    let places = match random.below(200) {
-        0 => RECIPE_LIMIT + 1,
-        1..=20 => random.below(100),
-        _ => job.len(),
-    };
-    Step {
-        job: Lent::new(job),
-        recipe: Lent::new(&random.numbers(places)),
-    }
 }

@@ -27,7 +27,10 @@ const OPERATIONS: [(Operation, &str, &[u32]); 7] = [
 /// accept.
 const LEAST_OUTCOMES: u64 = 20;
 
-/// Counts of the calls and of the checks of demand 3.
+/// How many revisions of each number of changed fields must come near their ceiling in a full run.
+const LEAST_NEAR: u64 = 50;
+
+/// Counts of the calls, of the checks of demand 3 and of those of several fields.
 #[derive(Default)]
 pub struct Tally {
     outcomes: [[u64; 11]; 7],
@@ -35,12 +38,31 @@ pub struct Tally {
     pub places: u64,
     /// The largest charge in per cent of its ceiling, in jobs made at random.
     pub nearest: f64,
+    fields: [Fields; 5],
+}
+
+/// Counts of the revisions that change so many fields and whose ceiling is below their length.
+#[derive(Default)]
+struct Fields {
+    revisions: u64,
+    /// Those charged at least 90 % of the ceiling.
+    near: u64,
+    /// Those charged the whole ceiling.
+    met: u64,
 }
 
 impl Tally {
     /// Counts a call that ended with this refusal.
     pub fn count(&mut self, operation: Operation, refusal: u32) {
         self.outcomes[operation as usize][refusal as usize] += 1;
+    }
+
+    /// Counts a revision that changes so many fields.
+    pub fn count_fields(&mut self, number: usize, charge: u64, ceiling: u64) {
+        let fields = &mut self.fields[number];
+        fields.revisions += 1;
+        fields.near += u64::from(charge * 10 >= ceiling * 9);
+        fields.met += u64::from(charge == ceiling);
     }
 
     /// The number of calls of an operation.
@@ -66,6 +88,12 @@ impl Tally {
             "checks of demand 3: {}, largest charge {:.1} % of its ceiling",
             self.places, self.nearest
         );
+        for (number, fields) in self.fields.iter().enumerate() {
+            println!(
+                "fields changed {number}: {} revisions, {} at 90 % of the ceiling or more, {} at the ceiling",
+                fields.revisions, fields.near, fields.met
+            );
+        }
     }
 
     /// Tells which count of a full run is too small, if one is.
@@ -79,6 +107,14 @@ impl Tally {
         for (count, least, name) in totals {
             if count < least {
                 return Err(format!("only {count} {name}, and {least} are wanted"));
+            }
+        }
+        for (number, fields) in self.fields.iter().enumerate() {
+            if fields.near < LEAST_NEAR {
+                return Err(format!(
+                    "only {} revisions with {number} changed fields came near their ceiling",
+                    fields.near
+                ));
             }
         }
         for (operation, name, grounds) in OPERATIONS {
