@@ -32,6 +32,22 @@ unfoldable pub grown : List (List ℕ) → List (List ℕ) → List (List ℕ)
 grown held [] = held
 grown held (c ∷ cs) = grown (gain held c) cs
 
+-- of chunks in order, the new ones: "A piece found by the search, pieces added for this job included, is repeated. Any
+-- other is new"
+unfoldable pub added : List (List ℕ) → List (List ℕ) → List (List ℕ)
+added held [] = []
+added held (c ∷ cs) = let later = added (gain held c) cs in cond (has held c) later (c ∷ later)
+
+-- the repeated ones
+unfoldable pub repeated : List (List ℕ) → List (List ℕ) → List (List ℕ)
+repeated held [] = []
+repeated held (c ∷ cs) = let later = repeated (gain held c) cs in cond (has held c) (c ∷ later) later
+
+-- their numbers: that of a new chunk is "the next number"
+unfoldable pub numbers : List (List ℕ) → List (List ℕ) → List ℕ
+numbers held [] = []
+numbers held (c ∷ cs) = number held c ∷ numbers (gain held c) cs
+
 -- the bytes that chunks add
 unfoldable pub gained : List (List ℕ) → List (List ℕ) → ℕ
 gained held [] = 0

@@ -2,3 +2,4 @@ pub mod Sameness
 pub mod Numbering
 pub mod Growth
 pub mod Members
+pub mod Additions

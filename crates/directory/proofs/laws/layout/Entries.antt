@@ -9,15 +9,15 @@ use Rattle.directory.specs.Entry.{offsetAt, lengthAt}
 use Rattle.directory.specs.Layout.{laidOut}
 
 -- entry i starts at `from`, its length is allowed, and the n entries after it follow
-record First (w : ℕ) (directory : List ℕ) (i from filled n : ℕ) : Type 0 where
-  starts : offsetAt directory i ≡ from
-  some : 1 ≤ lengthAt directory i
-  bounded : lengthAt directory i ≤ 256 * w + 1
-  rest : laidOut w directory (suc i) (from + lengthAt directory i) filled n ≡ true
+pub record First (w : ℕ) (directory : List ℕ) (i from filled n : ℕ) : Type 0 where
+  pub starts : offsetAt directory i ≡ from
+  pub some : 1 ≤ lengthAt directory i
+  pub bounded : lengthAt directory i ≤ 256 * w + 1
+  pub rest : laidOut w directory (suc i) (from + lengthAt directory i) filled n ≡ true
 
 module _ (w : ℕ) (directory : List ℕ) where
   -- at least one entry
-  first : (i from filled n : ℕ) → laidOut w directory i from filled (suc n) ≡ true → First w directory i from filled n
+  pub first : (i from filled n : ℕ) → laidOut w directory i from filled (suc n) ≡ true → First w directory i from filled n
   unfolding laidOut
   first i from filled n h =
       let k = and-eq-true-iff _ _ .0 h in
@@ -38,7 +38,7 @@ module _ (w : ℕ) (directory : List ℕ) where
       rw (eq-eqb _ _ (f .starts), le-leb _ _ (f .some), le-leb _ _ (f .bounded)) (f .rest)
 
   -- no entries end where they start
-  none : (i from filled : ℕ) → laidOut w directory i from filled 0 ≡ true → from ≡ filled
+  pub none : (i from filled : ℕ) → laidOut w directory i from filled 0 ≡ true → from ≡ filled
   unfolding laidOut
   none i from filled h = eqb-true from filled h
 
@@ -48,7 +48,7 @@ module _ (w : ℕ) (directory : List ℕ) where
   none-back i from filled e = eq-eqb from filled e
 
   -- entries end no earlier than they start
-  laid-end : (i from filled n : ℕ) → laidOut w directory i from filled n ≡ true → from ≤ filled
+  pub laid-end : (i from filled n : ℕ) → laidOut w directory i from filled n ≡ true → from ≤ filled
   laid-end i from filled zero h = omega (arith, none i from filled h)
   laid-end i from filled (suc n) h =
       let f = first i from filled n h in
