@@ -2,9 +2,9 @@
 ghost use mathlib.Core.Path.{_≡_};
 ghost use mathlib.Core.Bool.{true, false};
 ghost use Prim.Native.Nat.{_+_, _*_, _≤_, _<_};
-ghost use lib.ListN.{length};
+ghost use lib.ListN.{length, take, drop};
 ghost use Rattle.directory.specs.Entry.{stride, offsetAt};
-ghost use Rattle.store.specs.Contents.{number};
+ghost use Rattle.store.specs.Contents.{same, number};
 ghost use Rattle.store.specs.Memory.{contents};
 ghost use Rattle.store.specs.internal.EntriesIn.{EntriesIn};
 ghost use Rattle.search.specs.internal.Candidates.{Next, OfLength, keyAt, OfKey, NextCandidate, Differs, Agree, EqualBlocks};
@@ -150,6 +150,24 @@ fn equal_blocks(pool: &[u8], from: usize, chunk: &[u8]) -> usize
         at += 16;
     }
     at
+}
+
+// Whether the chunk's bytes stand at a place.
+pub fn stands_at(bytes: &[u8], from: usize, chunk: &[u8]) -> bool
+    requires { ⌜ from + length (now chunk) ≤ length (now bytes) ⌝ }
+    ensures { λ r. ⌜ r ≡ same (take (length (now (chunk .entry))) (drop from (now (bytes .entry)))) (now (chunk .entry)) ⌝ }
+{
+    let mut i = equal_blocks(bytes, from, chunk);
+    if i + 16 <= chunk.len() {
+        return false;
+    }
+    while i < chunk.len() {
+        if bytes[from + i] != chunk[i] {
+            return false;
+        }
+        i += 1;
+    }
+    true
 }
 
 // The lowest number of an equal chunk, or the next unused number. A candidate has the same length,

@@ -1,0 +1,38 @@
+-- The chunk's bytes at a place: where all agree they are the chunk, and where one does not they are not.
+use Prim.Native.Nat.{ℕ, _+_, _≤_, _<_}
+use native.Mathlib.Omega.{arith}
+use mathlib.Core.Path.{_≡_, ap, sym, _∙_}
+use mathlib.Core.Bool.{true, false}
+use mathlib.Core.List.{List}
+use lib.ListN.{length, getD, take, drop, length-take, length-drop}
+use borrow.Author.Count.{below-more}
+use lib.Seq.{getD-take, getD-drop, ext-getD}
+use Rattle.store.specs.Contents.{same}
+use Rattle.store.proofs.laws.contents.Sameness.{equal-same, same-other}
+use Rattle.search.specs.internal.Candidates.{Differs, Agree}
+
+module _ (bytes chunk : List ℕ) (from : ℕ) where
+  -- a byte at the place
+  byte : (k : ℕ) → k < length chunk → getD (take (length chunk) (drop from bytes)) k 0 ≡ getD bytes (from + k) 0
+  byte k h = getD-take (length chunk) (drop from bytes) k 0 h ∙ getD-drop from bytes k 0
+
+  -- all bytes agree
+  pub stands-all : from + length chunk ≤ length bytes → Agree bytes from chunk 0 (length chunk)
+      → true ≡ same (take (length chunk) (drop from bytes)) chunk
+  stands-all inside a =
+      let size : length (take (length chunk) (drop from bytes)) ≡ length chunk =
+      simp (length-take, length-drop) (omega arith) in
+      sym (equal-same _ _
+      (ext-getD 0 _ _ size (λ k h. byte k (omega arith) ∙ a .each k (omega arith) (omega arith))))
+
+  -- one does not
+  pub stands-not : Differs bytes from chunk (length chunk) → false ≡ same (take (length chunk) (drop from bytes)) chunk
+  stands-not d =
+      sym (same-other _ _ (λ p. d .other (sym (byte (d .index) (d .within)) ∙ ap (λ xs. getD xs (d .index) 0) p)))
+
+-- one more byte agrees
+pub agree-next : {bytes chunk : List ℕ} {from : ℕ} → (n : ℕ) → Agree bytes from chunk 0 n
+    → getD bytes (from + n) 0 ≡ getD chunk n 0 → Agree bytes from chunk 0 (n + 1)
+agree-next {bytes} {chunk} {from} n g e =
+    let all = below-more (λ k. getD bytes (from + k) 0 ≡ getD chunk k 0) n (λ k h. g .each k h (omega arith)) e in
+    record { each = λ k h l. all k h }
