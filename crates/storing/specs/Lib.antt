@@ -1,0 +1,3 @@
+-- Storing says how new chunks go into pool and directory. In internal/ is what only contracts of this layer cite.
+pub mod Storing
+pub mod internal
