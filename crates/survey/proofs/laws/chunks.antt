@@ -1,0 +1,2 @@
+pub mod OneChunk
+pub mod Surveying

@@ -1,0 +1,4 @@
+pub mod Snapshot
+pub mod Ready
+pub mod Begun
+pub mod Surveyed

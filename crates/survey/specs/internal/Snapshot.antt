@@ -1,0 +1,97 @@
+-- A survey under way, chunk by chunk: what it has counted, and the recipe, whose places hold marks.
+use Prim.Native.Nat.{ℕ, _+_}
+use mathlib.Core.Bool.{Bool, cond, _||_}
+use mathlib.Core.List.{List, [], _∷_}
+use lib.Dec.{leb, ltb}
+use lib.ListN.{length, set, take}
+use Rattle.refusal.specs.Number.{accepted}
+use Rattle.refusal.specs.Grounds.{unless, first}
+use Rattle.refusal.specs.declared.Refusal.{Refusal}
+use Rattle.refusal.specs.declared.Refusal.the-variants.{Accepted, RecipeFull, DirectoryFull, PoolFull}
+use Rattle.directory.specs.Entry.{entries}
+use Rattle.store.specs.declared.Head.{Head}
+use Rattle.store.specs.Contents.{number}
+use Rattle.store.specs.Memory.{contents}
+use Rattle.marks.specs.Marks.{repeatMark, firstMark, firsts}
+use Rattle.survey.specs.declared.Progress.{Progress}
+
+pub record Snapshot : Type 0 where
+  pub progress : Progress
+  pub recipe : List ℕ
+
+abbrev pub snapshot : Progress → List ℕ → Snapshot
+snapshot progress recipe = record { progress = progress; recipe = recipe }
+
+-- the counts with a repeated chunk of some length
+abbrev pub withRepeated : Progress → ℕ → Progress
+withRepeated p size =
+    record {
+      chunks = p .chunks;
+      filled = p .filled;
+      «recipe_length» = p .«recipe_length» + 1;
+      «new_bytes» = p .«new_bytes»;
+      «repeated_bytes» = p .«repeated_bytes» + size;
+    }
+
+-- the counts with a new chunk of some length
+abbrev pub withNew : Progress → ℕ → Progress
+withNew p size =
+    record {
+      chunks = record { 0 = p .chunks .0 + 1 };
+      filled = record { 0 = p .filled .0 + size };
+      «recipe_length» = p .«recipe_length» + 1;
+      «new_bytes» = p .«new_bytes» + size;
+      «repeated_bytes» = p .«repeated_bytes»;
+    }
+
+-- the ground that ended a survey, if any, and what it leaves
+pub record Outcome : Type 0 where
+  pub refusal : Refusal
+  pub snapshot : Snapshot
+
+abbrev pub ends : Refusal → Snapshot → Outcome
+ends ground f = record { refusal = ground; snapshot = f }
+
+module _ (head : Head) (pool directory job : List ℕ) where
+  -- the number that a chunk has in the store as the job finds it, or the number of its chunks
+  abbrev pub numberIn : List ℕ → ℕ
+  numberIn c = number (contents pool directory (head .chunks .0)) c
+
+  -- the place at which it appears in the job first, or the number of places so far
+  abbrev pub placeIn : Snapshot → List ℕ → ℕ
+  placeIn f c = number (firsts (head .window) job (take (f .progress .«recipe_length») (f .recipe))) c
+
+  -- the store holds the chunk
+  abbrev pub stored : List ℕ → Bool
+  stored c = ltb (numberIn c) (head .chunks .0)
+
+  -- an earlier place of the job has it
+  abbrev pub met : Snapshot → List ℕ → Bool
+  met f c = ltb (placeIn f c) (f .progress .«recipe_length»)
+
+  -- the grounds 6 to 8
+  unfoldable pub chunkGround : Snapshot → List ℕ → Refusal
+  chunkGround f c =
+      let known = stored c || met f c in
+      first
+      (unless (ltb (f .progress .«recipe_length») (length (f .recipe))) RecipeFull
+      ∷ unless (known || ltb (f .progress .chunks .0) (entries directory)) DirectoryFull
+      ∷ unless (known || leb (f .progress .filled .0 + length c) (length pool)) PoolFull
+      ∷ [])
+
+  -- what the place of a chunk at a position of the job is to say
+  abbrev pub markIn : Snapshot → ℕ → List ℕ → ℕ
+  markIn f at c = cond (stored c) (numberIn c) (cond (met f c) (repeatMark (placeIn f c)) (firstMark c at))
+
+  -- what a chunk that no ground refuses leaves
+  unfoldable pub afterChunk : Snapshot → ℕ → List ℕ → Snapshot
+  afterChunk f at c =
+      record {
+        progress = cond (stored c || met f c) (withRepeated (f .progress) (length c)) (withNew (f .progress) (length c));
+        recipe = set (f .recipe) (f .progress .«recipe_length») (markIn f at c);
+      }
+
+  -- one chunk: what it leaves, or its ground and nothing written
+  unfoldable pub chunkOutcome : Snapshot → ℕ → List ℕ → Outcome
+  chunkOutcome f at c =
+      cond (accepted (chunkGround f c)) (ends Accepted (afterChunk f at c)) (ends (chunkGround f c) f)
