@@ -1,19 +1,27 @@
-//! The comparison of admissions, looks and rebuildings.
+//! The comparison of quotes, takes, looks and rebuildings.
 
 use crate::agreement::{agree, Sequence};
 use crate::interface::{
-    Admitted, Head, DIRECTORY_LIMIT, JOB_LIMIT, POOL_LIMIT, RECIPE_LIMIT, WINDOW_LIMIT,
+    Answer, Head, ACCEPTED, DIRECTORY_LIMIT, JOB_LIMIT, POOL_LIMIT, RECIPE_LIMIT, WINDOW_LIMIT,
 };
 use crate::store::Store;
 use crate::{library, plain};
 
-type Admit = fn(&mut Head, &mut [u8], &mut [u32], &mut [u32], &[u8], &mut Admitted) -> u32;
+/// What a quote or a take tells, and what it leaves: the refusal, the answer, the store and the recipe.
+type Left = (u32, Answer, Store, Vec<u32>);
+
+type Quote = fn(&Head, &[u8], &[u32], &mut [u32], &[u8], &mut Answer) -> u32;
+type Take = fn(&mut Head, &mut [u8], &mut [u32], &mut [u32], &[u8], &mut Answer) -> u32;
 type Look = fn(&Head, &[u8], &[u32], u32, &mut [u64; 2]) -> u32;
 type Rebuild = fn(&Head, &[u8], &[u32], &[u32], &mut [u8], &mut u64) -> u32;
 
-const ADMISSIONS: [(&str, Admit); 2] = [
-    ("library", library::admit),
-    ("plain Rust", plain::store::admit),
+const QUOTES: [(&str, Quote); 2] = [
+    ("library", library::quote),
+    ("plain Rust", plain::store::quote),
+];
+const TAKES: [(&str, Take); 2] = [
+    ("library", library::take),
+    ("plain Rust", plain::store::take),
 ];
 const LOOKS: [(&str, Look); 2] = [
     ("library", library::look),
@@ -27,7 +35,7 @@ const REBUILDINGS: [(&str, Rebuild); 2] = [
 const STORES: usize = 50_000;
 const JOBS: usize = 3;
 
-/// Compares admissions, looks and rebuildings over small stores of any contents, and over memory at its limits, in which
+/// Compares quotes, takes, looks and rebuildings over small stores of any contents, and over memory at its limits, in which
 /// every ground of a store holds.
 pub fn compare_small_stores() {
     let mut sequence = Sequence(0x9e37_79b9_7f4a_7c15);
@@ -67,26 +75,56 @@ fn any_store(sequence: &mut Sequence) -> Store {
     }
 }
 
-/// Compares what the admissions tell and leave, and keeps what they leave.
+/// Compares what the quotes and the takes of a job tell and leave, and keeps what the takes leave.
 pub fn compare_admissions(store: &mut Store, recipe: &mut Vec<u32>, job: &[u8]) {
-    let results = ADMISSIONS.map(|(name, admit)| {
-        let (mut store, mut recipe) = (store.clone(), recipe.clone());
-        let mut admitted = Admitted {
-            counts: [1; 3],
-            saving: 1,
-        };
-        let Store {
-            head,
-            pool,
-            directory,
-        } = &mut store;
-        let refusal = admit(head, pool, directory, &mut recipe, job, &mut admitted);
-        (name, (refusal, admitted, store, recipe))
-    });
     let Head { window, chunks, .. } = store.head;
-    let what = || format!("admission, window {window}, after {chunks} chunks");
-    let (_, _, left, numbers) = agree(what, results);
-    (*store, *recipe) = (left, numbers);
+    let what = |which| format!("{which} at window {window}, after {chunks} chunks");
+    let quotes = QUOTES.map(|(name, quote)| (name, run_quote(quote, store, recipe, job)));
+    let (refusal, answer, same, numbers) = agree(|| what("quotes"), quotes);
+    let takes = TAKES.map(|(name, take)| (name, run_take(take, store, recipe, job)));
+    let taken = agree(|| what("takes"), takes);
+    let unchanged = [("the store", &*store), ("what a quote leaves", &same)];
+    agree(|| what("quote"), unchanged);
+    if refusal != ACCEPTED {
+        let unchanged = [("the store", &*store), ("what it leaves", &taken.2)];
+        agree(|| what("refused take"), unchanged);
+    }
+    (*store, *recipe) = (taken.2, taken.3);
+    let told = [
+        ("quote", (refusal, answer, &numbers)),
+        ("take", (taken.0, taken.1, &*recipe)),
+    ];
+    agree(|| what("pair"), told);
+}
+
+/// An answer that no call leaves.
+const UNTOLD: Answer = Answer {
+    counts: [1; 3],
+    saving: 1,
+};
+
+/// What a quote tells and leaves.
+fn run_quote(quote: Quote, store: &Store, recipe: &[u32], job: &[u8]) -> Left {
+    let (store, mut recipe, mut answer) = (store.clone(), recipe.to_vec(), UNTOLD);
+    let Store {
+        head,
+        pool,
+        directory,
+    } = &store;
+    let refusal = quote(head, pool, directory, &mut recipe, job, &mut answer);
+    (refusal, answer, store, recipe)
+}
+
+/// What a take tells and leaves.
+fn run_take(take: Take, store: &Store, recipe: &[u32], job: &[u8]) -> Left {
+    let (mut store, mut recipe, mut answer) = (store.clone(), recipe.to_vec(), UNTOLD);
+    let Store {
+        head,
+        pool,
+        directory,
+    } = &mut store;
+    let refusal = take(head, pool, directory, &mut recipe, job, &mut answer);
+    (refusal, answer, store, recipe)
 }
 
 /// Compares what the looks at a chunk tell.

@@ -57,10 +57,10 @@ impl Head {
     }
 }
 
-/// What an admission reports: the recipe's length, the bytes of the new chunks and those of the repeated ones; and the
-/// saving.
+/// What a quote or a take reports: the recipe's length, the bytes of the new chunks and those of the repeated ones; and
+/// the saving.
 #[derive(Clone, Copy, Default, PartialEq)]
-pub struct Admitted {
+pub struct Answer {
     pub counts: [u64; 3],
     pub saving: i64,
 }

@@ -2,9 +2,10 @@
 //! that is measured.
 
 use crate::hirunvel::{
-    hirunvel_rebuild, hirunvel_scanner_feed, hirunvel_store_admit, hirunvel_store_look,
+    hirunvel_rebuild, hirunvel_scanner_feed, hirunvel_store_look, hirunvel_store_quote,
+    hirunvel_store_take,
 };
-use crate::interface::{Admitted, Fed, Head, Scanner};
+use crate::interface::{Answer, Fed, Head, Scanner};
 use std::{array, ptr};
 
 #[link(name = "chunk_count", kind = "static")]
@@ -32,19 +33,47 @@ pub fn feed(scanner: &mut Scanner, part: &[u8], fed: &mut Fed) -> u32 {
     }
 }
 
-/// Admits a job.
-pub fn admit(
+/// Quotes a job.
+pub fn quote(
+    head: &Head,
+    pool: &[u8],
+    directory: &[u32],
+    recipe: &mut [u32],
+    job: &[u8],
+    answer: &mut Answer,
+) -> u32 {
+    // SAFETY: each pointer and its length are those of a slice, exclusive for the recipe; `Head` is laid out as the
+    // header's array, and the references to the counts are exclusive.
+    unsafe {
+        hirunvel_store_quote(
+            ptr::from_ref(head).cast(),
+            pool.as_ptr(),
+            pool.len(),
+            directory.as_ptr(),
+            directory.len(),
+            recipe.as_mut_ptr(),
+            recipe.len(),
+            job.as_ptr(),
+            job.len(),
+            &mut answer.counts,
+            array::from_mut(&mut answer.saving),
+        )
+    }
+}
+
+/// Takes a job.
+pub fn take(
     head: &mut Head,
     pool: &mut [u8],
     directory: &mut [u32],
     recipe: &mut [u32],
     job: &[u8],
-    admitted: &mut Admitted,
+    answer: &mut Answer,
 ) -> u32 {
     // SAFETY: each pointer and its length are those of a slice, exclusive where it is written; `Head` is laid out as the
     // header's array, and the references to it and to the counts are exclusive.
     unsafe {
-        hirunvel_store_admit(
+        hirunvel_store_take(
             ptr::from_mut(head).cast(),
             pool.as_mut_ptr(),
             pool.len(),
@@ -54,8 +83,8 @@ pub fn admit(
             recipe.len(),
             job.as_ptr(),
             job.len(),
-            &mut admitted.counts,
-            array::from_mut(&mut admitted.saving),
+            &mut answer.counts,
+            array::from_mut(&mut answer.saving),
         )
     }
 }

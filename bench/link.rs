@@ -1,6 +1,6 @@
 //! What jobs of labels cost on the link by window: their new bytes and the packets of their recipes.
 
-use crate::interface::{Admitted, Head, ACCEPTED, DIRECTORY_LIMIT, RECIPE_LIMIT};
+use crate::interface::{Answer, Head, ACCEPTED, DIRECTORY_LIMIT, RECIPE_LIMIT};
 use crate::store::revision;
 use crate::table::{number, Axes, Report};
 use crate::{library, Inputs, Measure};
@@ -68,17 +68,17 @@ fn job_costs(window: u32, job: &[u8]) -> (usize, usize) {
     let mut directory = vec![0; DIRECTORY_LIMIT];
     let mut recipe = vec![0; RECIPE_LIMIT];
     let mut cost = |job: &[u8]| {
-        let mut admitted = Admitted::default();
-        let refusal = library::admit(
+        let mut answer = Answer::default();
+        let refusal = library::take(
             &mut head,
             &mut pool,
             &mut directory,
             &mut recipe,
             job,
-            &mut admitted,
+            &mut answer,
         );
         assert_eq!(refusal, ACCEPTED, "a job is refused");
-        (job.len() as i64 - admitted.saving) as usize
+        (job.len() as i64 - answer.saving) as usize
     };
     (cost(job), cost(&revision(job)))
 }

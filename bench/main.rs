@@ -36,6 +36,11 @@ impl Inputs {
         }
     }
 
+    /// The job of random bytes.
+    fn random(&self) -> &[u8] {
+        &self.jobs[0].1
+    }
+
     /// The label-like job.
     fn label(&self) -> &[u8] {
         &self.jobs[1].1
@@ -51,9 +56,9 @@ type Part = (&'static str, fn(&Inputs) -> Measure<'_>, u64);
 const PARTS: [Part; 6] = [
     ("feeding", feeding::prepare, 45),
     ("limits", limits::prepare, 4),
-    ("admission", admission::prepare, 30),
+    ("admission", admission::prepare, 40),
     ("rebuilding", rebuilding::prepare, 8),
-    ("growth", growth::prepare, 75),
+    ("growth", growth::prepare, 105),
     ("link", link::prepare, 0),
 ];
 

@@ -1,4 +1,4 @@
-//! The rebuilding of admitted jobs, beside copying as many bytes.
+//! The rebuilding of taken jobs, beside copying as many bytes.
 
 use crate::admission;
 use crate::agreement::agree;
@@ -13,7 +13,7 @@ use std::hint::black_box;
 /// How often a turn goes over the jobs.
 const PASSES: usize = 16;
 
-/// A job, the store that has admitted it, and the recipe.
+/// A job, the store that has taken it, and the recipe.
 struct Kept {
     job: Vec<u8>,
     store: Store,
@@ -27,11 +27,11 @@ pub struct Case {
 }
 
 impl Case {
-    /// The jobs of an admission's case.
+    /// The jobs of a case of admission.
     pub fn new(case: admission::Case) -> Self {
         let output = vec![0; case.jobs[0].1.len()];
         let keep = |(mut store, job): (Store, Vec<u8>)| {
-            let recipe = store.admit(&job);
+            let recipe = store.take(&job);
             Kept { job, store, recipe }
         };
         let jobs = case.jobs.into_iter().map(keep).collect();

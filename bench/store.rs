@@ -1,6 +1,6 @@
-//! Stores of label-like chunks, and the label-like jobs that are admitted to them.
+//! Stores of label-like chunks, and the label-like jobs that they take.
 
-use crate::interface::{Admitted, Head, ACCEPTED, DIRECTORY_LIMIT, RECIPE_LIMIT};
+use crate::interface::{Answer, Head, ACCEPTED, DIRECTORY_LIMIT, RECIPE_LIMIT};
 use crate::plain;
 
 /// The bytes of each job with which a store is filled.
@@ -28,7 +28,7 @@ impl Store {
         };
         let mut jobs = filling.chunks_exact(FILLING_JOB);
         while (store.head.chunks as usize) < chunks {
-            store.admit(jobs.next().expect("more bytes to fill the store"));
+            store.take(jobs.next().expect("more bytes to fill the store"));
         }
         store.beginning(chunks, 0)
     }
@@ -55,27 +55,27 @@ impl Store {
         }
     }
 
-    /// This store after the admission of a job.
+    /// This store after the take of a job.
     pub fn after(&self, job: &[u8]) -> Self {
         let mut store = self.clone();
-        store.admit(job);
+        store.take(job);
         store
     }
 
-    /// Admits a job that the store has room for, and gives back its recipe.
-    pub fn admit(&mut self, job: &[u8]) -> Vec<u32> {
+    /// Takes a job that the store has room for, and gives back its recipe.
+    pub fn take(&mut self, job: &[u8]) -> Vec<u32> {
         let mut recipe = vec![0; RECIPE_LIMIT];
-        let mut admitted = Admitted::default();
-        let refusal = plain::store::admit(
+        let mut answer = Answer::default();
+        let refusal = plain::store::take(
             &mut self.head,
             &mut self.pool,
             &mut self.directory,
             &mut recipe,
             job,
-            &mut admitted,
+            &mut answer,
         );
         assert_eq!(refusal, ACCEPTED, "a job is refused");
-        recipe.truncate(admitted.counts[0] as usize);
+        recipe.truncate(answer.counts[0] as usize);
         recipe
     }
 }

@@ -1,5 +1,6 @@
 /*
- * Admits a job and its revision to one store, prints what each costs, and rebuilds both from their recipes.
+ * Takes a job into a store and quotes its revision: prints what it would cost before anything of it is stored. Then
+ * takes the revision, which costs what was quoted, and rebuilds both jobs from their recipes.
  *
  *     label_revision docs/example/label.zpl docs/example/label-2.zpl
  *
@@ -24,7 +25,7 @@ static uint32_t head[3]; /* the window, the number of chunks, the pool's bytes i
 static uint8_t pool[POOL_BYTES];
 static uint32_t directory[2 * ENTRIES];
 
-/* A job, and the recipe that its admission leaves. */
+/* A job, and the recipe that its quote or take leaves. */
 struct job {
     const char *name;
     uint8_t bytes[JOB_BYTES];
@@ -64,26 +65,58 @@ static void read_job(const char *name, struct job *job)
     fclose(file);
 }
 
-/* Admits a job. The charge is the bytes of its new chunks, those that the store did not hold. The saving is the length
- * less the charge and less 72 bytes for each packet of the recipe, which has a number for each chunk, 32 to a packet. */
-static void admit(struct job *job)
-{
+/* What a quote or a take answers: the recipe's length, new bytes, repeated bytes; and the saving. */
+struct terms {
     uint64_t counts[3];
     int64_t saving;
+};
 
-    check(hirunvel_store_admit(head, pool, POOL_BYTES, directory, 2 * ENTRIES, job->recipe, RECIPE_NUMBERS,
-                               job->bytes, job->length, counts, &saving),
-          "hirunvel_store_admit");
-    job->chunks = (size_t)counts[0];
-    printf("%s\n", job->name);
+/* Prints the terms of a job. The charge is the bytes of its new chunks, those that the store did not hold. The saving
+ * is the length less the charge and less 72 bytes for each packet of the recipe, which has a number for each chunk, 32
+ * to a packet. */
+static void print_terms(const struct job *job, const struct terms *terms)
+{
     printf("  length: %zu bytes\n", job->length);
-    printf("  charge: %" PRIu64 " new bytes\n", counts[1]);
-    printf("  repeated: %" PRIu64 " bytes\n", counts[2]);
-    printf("  chunks: %zu\n", job->chunks);
-    printf("  saving: %" PRId64 " bytes\n", saving);
+    printf("  charge: %" PRIu64 " new bytes\n", terms->counts[1]);
+    printf("  repeated: %" PRIu64 " bytes\n", terms->counts[2]);
+    printf("  chunks: %" PRIu64 "\n", terms->counts[0]);
+    printf("  saving: %" PRId64 " bytes\n", terms->saving);
 }
 
-/* Prints the store's chunks from a number on. An admission gives its new chunks the next numbers. */
+/* Quotes a job. Of all the lent memory only the recipe is written. */
+static struct terms quote(struct job *job)
+{
+    struct terms terms;
+
+    check(hirunvel_store_quote(head, pool, POOL_BYTES, directory, 2 * ENTRIES, job->recipe, RECIPE_NUMBERS,
+                               job->bytes, job->length, terms.counts, &terms.saving),
+          "hirunvel_store_quote");
+    printf("%s, quoted\n", job->name);
+    return terms;
+}
+
+/* Takes a job: its new chunks are stored. */
+static struct terms take(struct job *job)
+{
+    struct terms terms;
+
+    check(hirunvel_store_take(head, pool, POOL_BYTES, directory, 2 * ENTRIES, job->recipe, RECIPE_NUMBERS,
+                              job->bytes, job->length, terms.counts, &terms.saving),
+          "hirunvel_store_take");
+    job->chunks = (size_t)terms.counts[0];
+    printf("%s, taken\n", job->name);
+    return terms;
+}
+
+/* Compares the terms of a take with those that were quoted for it. */
+static void compare_terms(const struct job *job, const struct terms *quoted, const struct terms *taken)
+{
+    if (memcmp(quoted->counts, taken->counts, sizeof quoted->counts) != 0 || quoted->saving != taken->saving)
+        fail(job->name, "the take differs from its quote");
+    printf("  charge: %" PRIu64 " new bytes, as quoted\n", taken->counts[1]);
+}
+
+/* Prints the store's chunks from a number on. A take gives its new chunks the next numbers. */
 static void print_chunks(uint32_t number)
 {
     for (; number < head[1]; number++) {
@@ -97,7 +130,7 @@ static void print_chunks(uint32_t number)
     }
 }
 
-/* Rebuilds a job from its recipe and compares it with what was admitted. */
+/* Rebuilds a job from its recipe and compares it with what was taken. */
 static void rebuild(const struct job *job)
 {
     static uint8_t output[JOB_BYTES];
@@ -152,6 +185,7 @@ static void scan_in_parts(const struct job *job)
 
 int main(int argc, char **argv)
 {
+    struct terms quoted, taken;
     uint32_t chunks_before;
 
     if (argc != 3) {
@@ -162,10 +196,15 @@ int main(int argc, char **argv)
     read_job(argv[2], &revision);
 
     check(hirunvel_store_open(WINDOW, head), "hirunvel_store_open");
-    admit(&label);
+    taken = take(&label);
+    print_terms(&label, &taken);
     scan_in_parts(&label);
+
+    quoted = quote(&revision);
+    print_terms(&revision, &quoted);
     chunks_before = head[1];
-    admit(&revision);
+    taken = take(&revision);
+    compare_terms(&revision, &quoted, &taken);
     print_chunks(chunks_before);
 
     rebuild(&label);

@@ -117,8 +117,13 @@ uint32_t hirunvel_scanner_finish(uint32_t scanner[4], uint64_t *count);
  * Each call that is lent a store tests this entry by entry, so its time grows with the number of chunks. What the pool
  * and the directory of a fresh store hold does not matter.
  *
- * A chunk has at least window + 1 bytes, the last of a job at least 1. So a job of n bytes needs at most
- * n / (window + 1) + 1 entries, as many recipe numbers, and n bytes of the pool.
+ * A chunk has at least window + 1 bytes, the last of a job at least 1. So a job of n bytes has at most
+ * n / (window + 1) + 1 chunks. This room is enough for any job of n bytes: that many recipe numbers, that many unused
+ * entries and n pool bytes after filled. With it, and if none of HIRUNVEL_WINDOW, HIRUNVEL_JOB_LENGTH,
+ * HIRUNVEL_MEMORY_LIMIT and HIRUNVEL_HEAD holds, the job is accepted. With less room it is refused only if it needs
+ * more than there is: HIRUNVEL_RECIPE_FULL is reported only if the recipe has fewer numbers than the job has chunks,
+ * HIRUNVEL_DIRECTORY_FULL only if fewer entries are unused than the job has new chunks, and HIRUNVEL_POOL_FULL only if
+ * fewer pool bytes are left after filled than its new chunks have. All of this is proved.
  */
 
 /*
@@ -128,24 +133,37 @@ uint32_t hirunvel_scanner_finish(uint32_t scanner[4], uint64_t *count);
 uint32_t hirunvel_store_open(uint32_t window, uint32_t head[3]);
 
 /*
- * Admits a job: its chunks that the store does not hold go into the pool and the directory, and the numbers of all its
- * chunks, in order, into the recipe. recipe_len is the room that the recipe has. Tests HIRUNVEL_WINDOW,
- * HIRUNVEL_JOB_LENGTH, HIRUNVEL_MEMORY_LIMIT, HIRUNVEL_HEAD; then, for each chunk, HIRUNVEL_RECIPE_FULL,
- * HIRUNVEL_DIRECTORY_FULL, HIRUNVEL_POOL_FULL.
- * Reads job. Writes head, the pool from the old filled to the new one, the directory entries of the new chunks, and
- * the first counts[0] numbers of the recipe; the rest of pool, directory and recipe is untouched. counts[0] is the
- * recipe's length, the job's number of chunks; counts[1] is the bytes of the new ones, counts[2] the bytes of the
- * repeated ones. saving[0] is job_len - counts[1] - 72 * packets, where packets is counts[0] / 32, rounded up: on the
- * link a recipe number has 2 bytes, and each packet of up to 64 such bytes is charged at 72. The saving can be negative;
- * it is at least -147456.
- * Refused: head is unchanged; counts[0], counts[1], counts[2] and saving[0] are 0. After HIRUNVEL_RECIPE_FULL,
- * HIRUNVEL_DIRECTORY_FULL and HIRUNVEL_POOL_FULL, pool, directory and recipe hold what the earlier chunks of the job
- * wrote: in the pool after filled, in the directory after the entries in use, and in the recipe. After the other
- * grounds they are untouched.
+ * Quotes a job: tells what a take of it would come to, and stores nothing. A chunk is repeated if the store holds it or
+ * an earlier place of the job has it, and new otherwise. recipe_len is the room that the recipe has. Tests
+ * HIRUNVEL_WINDOW, HIRUNVEL_JOB_LENGTH, HIRUNVEL_MEMORY_LIMIT, HIRUNVEL_HEAD; then, for each chunk,
+ * HIRUNVEL_RECIPE_FULL, HIRUNVEL_DIRECTORY_FULL, HIRUNVEL_POOL_FULL, the last two as if the new chunks before it were
+ * stored.
+ * Reads head, pool, directory, job. Writes the first counts[0] numbers of the recipe, one per chunk of the job, in
+ * order: the number that the chunk has in the store (the lowest, if it is there twice), or the one that it would get.
+ * New chunks would get the numbers from head[1] on. The rest of the recipe is untouched. counts[0] is the recipe's
+ * length, the job's number of chunks; counts[1] is the bytes of the new ones, counts[2] the bytes of the repeated ones.
+ * saving[0] is job_len - counts[1] - 72 * packets, where packets is counts[0] / 32, rounded up: on the link a recipe
+ * number has 2 bytes, and each packet of up to 64 such bytes is charged at 72. The saving can be negative; it is at
+ * least -147456.
+ * Refused: counts[0], counts[1], counts[2] and saving[0] are 0. After HIRUNVEL_RECIPE_FULL, HIRUNVEL_DIRECTORY_FULL and
+ * HIRUNVEL_POOL_FULL the recipe holds the numbers of the chunks before the refused one, and the rest is untouched.
+ * After the other grounds the whole recipe is untouched.
  */
-uint32_t hirunvel_store_admit(uint32_t head[3], uint8_t *pool, size_t pool_len, uint32_t *directory,
+uint32_t hirunvel_store_quote(const uint32_t head[3], const uint8_t *pool, size_t pool_len, const uint32_t *directory,
                               size_t directory_len, uint32_t *recipe, size_t recipe_len, const uint8_t *job,
                               size_t job_len, uint64_t counts[3], int64_t saving[1]);
+
+/*
+ * Takes a job: its new chunks go into the pool and the directory. Tests what hirunvel_store_quote tests, in the same
+ * order. On the same head, pool, directory, recipe and job the two give the same result and leave the same recipe,
+ * counts and saving, refused or not. No quote need come before a take.
+ * Reads job. Writes head, the pool from the old filled to the new one, the directory entries of the new chunks, and
+ * recipe, counts and saving as a quote does. The rest of pool, directory and recipe is untouched.
+ * Refused: head, pool and directory are untouched; recipe, counts and saving are as a quote leaves them.
+ */
+uint32_t hirunvel_store_take(uint32_t head[3], uint8_t *pool, size_t pool_len, uint32_t *directory,
+                             size_t directory_len, uint32_t *recipe, size_t recipe_len, const uint8_t *job,
+                             size_t job_len, uint64_t counts[3], int64_t saving[1]);
 
 /*
  * Finds a chunk in the pool. Tests HIRUNVEL_WINDOW, HIRUNVEL_MEMORY_LIMIT, HIRUNVEL_HEAD, HIRUNVEL_CHUNK_NUMBER.
@@ -160,9 +178,10 @@ uint32_t hirunvel_store_look(const uint32_t head[3], const uint8_t *pool, size_t
  * Reads head, pool, directory, recipe. written[0] is the number of bytes written, from the start of the output; the
  * rest of it is untouched. Refused: output is untouched, written[0] is 0.
  *
- * The recipe that an admission left, with its counts[0] as recipe_len, gives back the admitted job if the store was
- * opened fresh and only admissions have changed it since. Any other store whose head fits is accepted too, and gives
- * back whatever bytes its entries name.
+ * The recipe that an accepted take left, with its counts[0] as recipe_len, gives back the job that was taken if the
+ * store was opened fresh and only takes have changed it since. Any other store whose head fits is accepted too, and
+ * gives back whatever bytes its entries name. The recipe of a quote may name chunks that are not stored: take the job
+ * before rebuilding it.
  *
  * Read the output only after the call: while it runs, bytes beyond a chunk but within the job may be written for a
  * moment and then written over.

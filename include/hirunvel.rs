@@ -41,7 +41,20 @@ unsafe extern "C" {
     ) -> u32;
     pub fn hirunvel_scanner_finish(scanner: *mut [u32; 4], count: *mut u64) -> u32;
     pub fn hirunvel_store_open(window: u32, head: *mut [u32; 3]) -> u32;
-    pub fn hirunvel_store_admit(
+    pub fn hirunvel_store_quote(
+        head: *const [u32; 3],
+        pool: *const u8,
+        pool_len: usize,
+        directory: *const u32,
+        directory_len: usize,
+        recipe: *mut u32,
+        recipe_len: usize,
+        job: *const u8,
+        job_len: usize,
+        counts: *mut [u64; 3],
+        saving: *mut [i64; 1],
+    ) -> u32;
+    pub fn hirunvel_store_take(
         head: *mut [u32; 3],
         pool: *mut u8,
         pool_len: usize,

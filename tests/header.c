@@ -1,4 +1,5 @@
-/* Compiled as C and as C++: the header stands alone, can be included twice, and has the scope's numbers. */
+/* Compiled as C and as C++: the header stands alone, can be included twice, has the scope's numbers, and lends a quote
+ * only the recipe, the counts and the saving to write. */
 #include "hirunvel.h"
 #include "hirunvel.h"
 
@@ -13,3 +14,11 @@
     || HIRUNVEL_CHUNK_LIMIT != 256 * HIRUNVEL_WINDOW_LIMIT + 1
 #error "a limit is not the scope's"
 #endif
+
+typedef uint32_t quote_function(const uint32_t *, const uint8_t *, size_t, const uint32_t *, size_t, uint32_t *, size_t,
+                                const uint8_t *, size_t, uint64_t *, int64_t *);
+typedef uint32_t take_function(uint32_t *, uint8_t *, size_t, uint32_t *, size_t, uint32_t *, size_t, const uint8_t *,
+                               size_t, uint64_t *, int64_t *);
+
+quote_function *quote = hirunvel_store_quote;
+take_function *take = hirunvel_store_take;

@@ -52,7 +52,7 @@ class Store:
         self.numbers = {}
         self.filled = 0
 
-    def admit(self, job):
+    def take(self, job):
         """The refusal, and the frames of the chunks: number, position, length and 1 for new."""
         if not job:
             return JOB_LENGTH, []
@@ -76,7 +76,7 @@ class Store:
 
 def listing(job, store=None):
     """The text of a job's frames."""
-    refusal, frames = (JOB_LENGTH, []) if len(job) > LONGEST_JOB else (store or Store()).admit(job)
+    refusal, frames = (JOB_LENGTH, []) if len(job) > LONGEST_JOB else (store or Store()).take(job)
     new_bytes = sum(length for _, _, length, new in frames if new)
     last = (0xFFFF, 0, 0, refusal) if refusal else (0xFFFF, new_bytes, len(job), 0)
     return "".join("%04X%08X%08X%02X\n" % frame for frame in [*frames, last]).encode()
@@ -209,7 +209,7 @@ def compare(program):
 
 
 def show(jobs):
-    """Prints the second listing of jobs that are admitted to one store, one after another."""
+    """Prints the second listing of jobs that are taken into one store, one after another."""
     store = Store()
     for path, job in jobs:
         print(path)
@@ -230,7 +230,7 @@ def main():
     words.add_argument(
         "program", nargs="?", metavar="PROGRAM", default="target/bin/listing", help="the listing program (%(default)s)"
     )
-    words.add_argument("--jobs", nargs="+", type=named_job, metavar="FILE", help="jobs to admit to one store, in order")
+    words.add_argument("--jobs", nargs="+", type=named_job, metavar="FILE", help="jobs to take into one store, in order")
     chosen = parser.parse_args()
     if chosen.jobs:
         return show(chosen.jobs)

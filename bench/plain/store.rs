@@ -1,8 +1,8 @@
-//! The store: the admission of a job by a linear search, and the look at a chunk.
+//! The store: the quote and the take of a job by a linear search, and the look at a chunk.
 
 use super::chunker::first_chunk;
 use crate::interface::{
-    Admitted, Head, ACCEPTED, CHUNK_NUMBER, DIRECTORY_FULL, DIRECTORY_LIMIT, HEAD, JOB_LENGTH,
+    Answer, Head, ACCEPTED, CHUNK_NUMBER, DIRECTORY_FULL, DIRECTORY_LIMIT, HEAD, JOB_LENGTH,
     JOB_LIMIT, MEMORY_LIMIT, POOL_FULL, POOL_LIMIT, RECIPE_FULL, RECIPE_LIMIT, WINDOW,
     WINDOW_LIMIT,
 };
@@ -38,81 +38,126 @@ pub fn head_refused(head: &Head, pool: &[u8], directory: &[u32]) -> bool {
     from != u64::from(head.filled) || from > pool.len() as u64
 }
 
-/// The lowest number of an equal chunk.
-fn search(pool: &[u8], used: &[[u32; 2]], chunk: &[u8]) -> Option<usize> {
-    used.iter().position(|[offset, length]| {
-        *length as usize == chunk.len() && pool[*offset as usize..][..chunk.len()] == *chunk
-    })
+/// The first of the grounds 1 and 3 to 5 that holds.
+fn refused(
+    head: &Head,
+    pool: &[u8],
+    directory: &[u32],
+    recipe: &[u32],
+    job: &[u8],
+) -> Result<(), u32> {
+    if window_refused(head.window) {
+        return Err(WINDOW);
+    }
+    if job.is_empty() || job.len() > JOB_LIMIT {
+        return Err(JOB_LENGTH);
+    }
+    if memory_refused(pool, directory) || recipe.len() > RECIPE_LIMIT {
+        return Err(MEMORY_LIMIT);
+    }
+    if head_refused(head, pool, directory) {
+        return Err(HEAD);
+    }
+    Ok(())
 }
 
-/// Admits the chunks of a job on which none of the grounds 1 and 3 to 5 holds.
-fn admit_chunks(
-    head: &mut Head,
-    pool: &mut [u8],
-    directory: &mut [u32],
+/// The lowest number of an equal chunk, of the store or else of the job's new ones so far.
+fn search(pool: &[u8], used: &[[u32; 2]], new: &[&[u8]], chunk: &[u8]) -> Option<usize> {
+    let stored = used.iter().position(|[offset, length]| {
+        *length as usize == chunk.len() && pool[*offset as usize..][..chunk.len()] == *chunk
+    });
+    stored.or_else(|| Some(used.len() + new.iter().position(|other| *other == chunk)?))
+}
+
+/// Writes a job's recipe, and gives back what the job comes to and its new chunks, in order.
+fn survey<'a>(
+    head: &Head,
+    pool: &[u8],
+    directory: &[u32],
     recipe: &mut [u32],
-    job: &[u8],
-) -> Result<Admitted, u32> {
-    let entries = directory.as_chunks_mut::<2>().0;
-    let mut chunks = head.chunks as usize;
-    let mut filled = head.filled as usize;
+    job: &'a [u8],
+) -> Result<(Answer, Vec<&'a [u8]>), u32> {
+    refused(head, pool, directory, recipe, job)?;
+    let entries = directory.as_chunks::<2>().0;
+    let used = &entries[..head.chunks as usize];
+    let room = pool.len() - head.filled as usize;
+    let mut new = Vec::new();
+    let mut new_bytes = 0;
     let mut numbers = recipe.iter_mut();
     let mut rest = job;
     while !rest.is_empty() {
         let (chunk, after) = rest.split_at(first_chunk(head.window as usize, rest));
         let number = numbers.next().ok_or(RECIPE_FULL)?;
-        *number = match search(pool, &entries[..chunks], chunk) {
-            Some(found) => found as u32,
-            None => {
-                let entry = entries.get_mut(chunks).ok_or(DIRECTORY_FULL)?;
-                let place = pool[filled..].get_mut(..chunk.len()).ok_or(POOL_FULL)?;
-                place.copy_from_slice(chunk);
-                *entry = [filled as u32, chunk.len() as u32];
-                filled += chunk.len();
-                chunks += 1;
-                chunks as u32 - 1
+        let next = used.len() + new.len();
+        let found = search(pool, used, &new, chunk);
+        if found.is_none() {
+            if next == entries.len() {
+                return Err(DIRECTORY_FULL);
             }
-        };
+            if chunk.len() > room - new_bytes {
+                return Err(POOL_FULL);
+            }
+            new.push(chunk);
+            new_bytes += chunk.len();
+        }
+        *number = found.unwrap_or(next) as u32;
         rest = after;
     }
     let unused = numbers.len();
-    let length = recipe.len() - unused;
-    let new_bytes = filled - head.filled as usize;
-    let packets = length.div_ceil(PACKET_NUMBERS);
-    head.chunks = chunks as u32;
-    head.filled = filled as u32;
-    Ok(Admitted {
-        counts: [length, new_bytes, job.len() - new_bytes].map(|count| count as u64),
-        saving: job.len() as i64 - (new_bytes + PACKET_CHARGE * packets) as i64,
-    })
+    let answer = answer(recipe.len() - unused, new_bytes, job.len());
+    Ok((answer, new))
 }
 
-/// Admits a job.
+/// What an accepted job comes to.
+fn answer(numbers: usize, new_bytes: usize, job_bytes: usize) -> Answer {
+    let packets = numbers.div_ceil(PACKET_NUMBERS);
+    Answer {
+        counts: [numbers, new_bytes, job_bytes - new_bytes].map(|count| count as u64),
+        saving: job_bytes as i64 - (new_bytes + PACKET_CHARGE * packets) as i64,
+    }
+}
+
+/// Quotes a job.
 #[inline(never)]
-pub fn admit(
+pub fn quote(
+    head: &Head,
+    pool: &[u8],
+    directory: &[u32],
+    recipe: &mut [u32],
+    job: &[u8],
+    answer: &mut Answer,
+) -> u32 {
+    *answer = Answer::default();
+    match survey(head, pool, directory, recipe, job) {
+        Ok((quoted, _)) => {
+            *answer = quoted;
+            ACCEPTED
+        }
+        Err(refusal) => refusal,
+    }
+}
+
+/// Takes a job: quotes it, and writes its new chunks and their entries.
+#[inline(never)]
+pub fn take(
     head: &mut Head,
     pool: &mut [u8],
     directory: &mut [u32],
     recipe: &mut [u32],
     job: &[u8],
-    admitted: &mut Admitted,
+    answer: &mut Answer,
 ) -> u32 {
-    *admitted = Admitted::default();
-    if window_refused(head.window) {
-        return WINDOW;
-    }
-    if job.is_empty() || job.len() > JOB_LIMIT {
-        return JOB_LENGTH;
-    }
-    if memory_refused(pool, directory) || recipe.len() > RECIPE_LIMIT {
-        return MEMORY_LIMIT;
-    }
-    if head_refused(head, pool, directory) {
-        return HEAD;
-    }
-    match admit_chunks(head, pool, directory, recipe, job) {
-        Ok(counts) => {
-            *admitted = counts;
+    *answer = Answer::default();
+    match survey(head, pool, directory, recipe, job) {
+        Ok((quoted, new)) => {
+            let entries = directory.as_chunks_mut::<2>().0;
+            for chunk in new {
+                pool[head.filled as usize..][..chunk.len()].copy_from_slice(chunk);
+                entries[head.chunks as usize] = [head.filled, chunk.len() as u32];
+                head.filled += chunk.len() as u32;
+                head.chunks += 1;
+            }
+            *answer = quoted;
             ACCEPTED
         }
         Err(refusal) => refusal,

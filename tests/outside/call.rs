@@ -33,10 +33,11 @@ pub fn compare<C: Call>(call: &C, tally: &mut Tally) -> Result<(u32, C), String>
         return Ok((refusal, library));
     }
     Err(format!(
-        "The library and the model differ.\n\
+        "The library and the model differ in a call of {:?}.\n\
          before the call: {call:#?}\n\
          changed by the library, refusal {refusal}:\n{}\
          changed by the model, refusal {expected}:\n{}",
+        C::OPERATION,
         changes(call, &library),
         changes(call, &model)
     ))

@@ -1,13 +1,13 @@
-//! Single calls on forged stores: admissions, looks and rebuildings.
+//! Single calls on forged stores: quotes, takes, looks and rebuildings.
 
-use crate::call::Call;
 use crate::forging;
 use crate::jobs;
 use crate::memory::{Lent, Store};
-use crate::model::ACCEPTED;
+use crate::pair::Pair;
 use crate::random::Random;
+use crate::room::{try_rooms, Roomy};
 use crate::shrink::hold;
-use crate::store_calls::{Admit, Look, Rebuild, StoreOpen};
+use crate::store_calls::{Look, Rebuild, StoreOpen};
 use crate::tally::Tally;
 
 /// Opens stores, then makes this many rounds of calls on forged ones.
@@ -15,51 +15,26 @@ pub fn run(random: &mut Random, rounds: u64, tally: &mut Tally) -> Result<(), St
     for window in (0..2_100).chain(jobs::REFUSED_WINDOWS) {
         hold(&StoreOpen::new(window), tally)?;
         let store = Store::of_chunks(window, &[vec![7; 2]], &[0; 8], &[0; 4]);
-        hold(&Admit::new(&store, &Lent::new(&[0; 8]), b"label"), tally)?;
+        let pair = Pair::new(&store, &Lent::new(&[0; 8]), b"label");
+        hold(&pair, tally)?;
         look_and_rebuild(random, &store, tally)?;
     }
     for _ in 0..rounds {
-        let (store, job) = if random.once_in(2) {
+        let fits = random.once_in(2);
+        let (store, job) = if fits {
             forging::store(random)
         } else {
             forging::damaged_store(random)
         };
         let job = if random.once_in(20) { Vec::new() } else { job };
-        admit_to_fitting_memory(random, &store, &job, tally)?;
+        let recipe = forging::recipe(random, job.len());
+        hold(&Roomy(Pair::new(&store, &recipe, &job)), tally)?;
+        if fits && !job.is_empty() {
+            try_rooms(random, &store, &job, tally)?;
+        }
         look_and_rebuild(random, &store, tally)?;
     }
     Ok(())
-}
-
-/// Admits a job to a store, and to the same store with as much memory as the job needs or a little
-/// less.
-fn admit_to_fitting_memory(
-    random: &mut Random,
-    store: &Store,
-    job: &[u8],
-    tally: &mut Tally,
-) -> Result<(), String> {
-    let recipe = Lent::new(&random.numbers(job.len()));
-    hold(&Admit::new(store, &recipe, job), tally)?;
-    let pool = [&store.pool[..], &random.bytes(job.len())].concat();
-    let directory = [&store.directory[..], &random.numbers(2 * job.len())].concat();
-    let mut ample = Admit::new(store, &recipe, job);
-    ample.store.pool = Lent::new(&pool);
-    ample.store.directory = Lent::new(&directory);
-    let mut done = ample.clone();
-    if done.by_model() != ACCEPTED {
-        return Ok(());
-    }
-    let [lacking_bytes, lacking_entries, lacking_places] =
-        [0; 3].map(|_| random.pick(&[0, 0, 0, 1, 2]));
-    let filled = done.store.head[2] as usize;
-    let entries = done.store.chunks() as usize;
-    let places = done.written_recipe().len();
-    let mut exact = ample;
-    exact.store.pool = Lent::new(&pool[..filled - lacking_bytes.min(filled)]);
-    exact.store.directory = Lent::new(&directory[..2 * (entries - lacking_entries.min(entries))]);
-    exact.recipe = recipe.first(places - lacking_places.min(places));
-    hold(&exact, tally)
 }
 
 /// Looks at numbers in and out of the store, and rebuilds a recipe, some of whose numbers may be

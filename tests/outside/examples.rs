@@ -1,10 +1,12 @@
-//! The jobs that the scope works by hand, with the answers that it gives, and recipes at the edges of a packet.
+//! The jobs that the scope works by hand, with the answers that it gives, jobs that repeat their own
+//! chunks, and recipes at the edges of a packet.
 
 use crate::call::compare;
 use crate::memory::{Lent, Store};
-use crate::model::ACCEPTED;
+use crate::model::{ACCEPTED, DIRECTORY_FULL, POOL_FULL, RECIPE_FULL};
+use crate::pair::Pair;
 use crate::scanner_calls::{Feed, Finish, ScannerOpen};
-use crate::store_calls::Admit;
+use crate::store_calls::{Quote, Take};
 use crate::tally::Tally;
 
 /// A window, a job and the lengths of its chunks that a cut ends.
@@ -18,6 +20,19 @@ const CUT_LENGTHS: [(u32, &[u8], &[u64]); 9] = [
     (2, &[9, 1, 9, 2, 3], &[3]),
     (2, &[5, 1, 1, 1, 2, 1, 1, 1], &[3, 4]),
     (4, &[0x41; 12], &[5, 5]),
+];
+
+/// A job for a fresh store with window 2, its recipe, new bytes, repeated bytes and saving.
+type Answered = (&'static [u8], &'static [u32], (u64, u64, i64));
+
+/// The hand-worked job, one byte, a repeat at the job's end, and last chunks that no cut ends: each
+/// begins as an earlier chunk does and is new.
+const ANSWERED: [Answered; 5] = [
+    (&[3, 1, 2, 3, 1, 2, 7], &[0, 0, 1], (4, 3, -69)),
+    (&[9], &[0], (1, 0, -72)),
+    (&[3, 1, 2, 4, 1, 2, 3, 1, 2], &[0, 1, 0], (6, 3, -69)),
+    (&[3, 1, 2, 3, 1, 2, 3, 1], &[0, 0, 1], (5, 3, -69)),
+    (&[1, 3, 1, 2, 1, 3, 1], &[0, 1], (7, 0, -72)),
 ];
 
 /// The numbers of a recipe, and the packets in which they travel.
@@ -41,19 +56,12 @@ pub fn run(tally: &mut Tally) -> Result<(), String> {
     check_cuts(1, &rise, &[], tally)?;
     rise.push(0);
     check_cuts(1, &rise, &[257], tally)?;
-    let store = Store::new([2, 0, 0], &[7; 64], &[7; 64]);
-    check_admission(
-        &store,
-        &[3, 1, 2, 3, 1, 2, 7],
-        &[0, 0, 1],
-        (4, 3, -69),
-        tally,
-    )?;
-    check_admission(&store, &[9], &[0], (1, 0, -72), tally)?;
-    let old = [5, 1, 1, 9, 2, 3, 4];
-    let revision = [6, 6, 1, 1, 9, 2, 3, 4];
-    let store = check_admission(&store, &old, &[0, 1, 2], (7, 0, -72), tally)?;
-    check_admission(&store, &revision, &[3, 4, 2], (7, 1, -71), tally)?;
+    let fresh = Store::new([2, 0, 0], &[7; 64], &[7; 64]);
+    for (job, recipe, answer) in ANSWERED {
+        check_answer(&fresh, job, recipe, answer, tally)?;
+    }
+    check_revision(&fresh, tally)?;
+    check_refusals(tally)?;
     for (numbers, packets) in PACKETS {
         check_packets(numbers, packets, tally)?;
     }
@@ -82,15 +90,16 @@ fn check_cuts(window: u32, job: &[u8], expected: &[u64], tally: &mut Tally) -> R
     Ok(())
 }
 
-/// Admits a job and compares its recipe, new bytes, repeated bytes and saving. Gives the store.
-fn check_admission(
+/// Quotes and takes a job and compares its recipe, new bytes, repeated bytes and saving. Gives the
+/// store.
+fn check_answer(
     store: &Store,
     job: &[u8],
     recipe: &[u32],
     answer: (u64, u64, i64),
     tally: &mut Tally,
 ) -> Result<Store, String> {
-    let (refusal, after) = compare(&Admit::new(store, &Lent::new(&[8; 20]), job), tally)?;
+    let (refusal, after) = Pair::new(store, &Lent::new(&[8; 20]), job).compare(tally)?;
     let found = (after.counts[1], after.counts[2], after.saving[0]);
     if refusal != ACCEPTED || after.written_recipe() != recipe || found != answer {
         return Err(format!(
@@ -100,12 +109,56 @@ fn check_admission(
     Ok(after.store)
 }
 
-/// Admits a job of equal bytes that has this many chunks, the first of them new, and compares its saving.
+/// Takes the hand-worked old job, quotes its revision twice, then takes it, each with the recipe
+/// memory as the call before left it. After that the revision has nothing new.
+fn check_revision(fresh: &Store, tally: &mut Tally) -> Result<(), String> {
+    let old = [5, 1, 1, 9, 2, 3, 4];
+    let revision = [6, 6, 1, 1, 9, 2, 3, 4];
+    let store = check_answer(fresh, &old, &[0, 1, 2], (7, 0, -72), tally)?;
+    check_answer(&store, &revision, &[3, 4, 2], (7, 1, -71), tally)?;
+    let first = compare(&Quote::new(&store, &Lent::new(&[8; 5]), &revision), tally)?.1;
+    let second = compare(&Quote::new(&store, &first.recipe, &revision), tally)?.1;
+    let taken = compare(&Take::new(&store, &second.recipe, &revision), tally)?.1;
+    let answers = [first.answer(), second.answer(), taken.answer()];
+    if taken.recipe[..] != [3, 4, 2, 8, 8] || answers != [taken.answer(); 3] {
+        return Err(format!("The quotes and the take differ: {answers:#?}"));
+    }
+    check_answer(&taken.store, &revision, &[3, 4, 2], (0, 8, -64), tally)?;
+    Ok(())
+}
+
+/// Quotes and takes a job of the chunks a, a, b, a, c where there is room for two new chunks only, and
+/// where the recipe ends after a repeat. The recipe gets the numbers of the chunks before the refused
+/// one.
+fn check_refusals(tally: &mut Tally) -> Result<(), String> {
+    let [a, b, c] = [[3, 1, 2], [4, 1, 2], [5, 1, 2]];
+    let job = [a, a, b, a, c].concat();
+    for (pool, entries, places, refusal, recipe) in [
+        (9, 2, 6, DIRECTORY_FULL, &[0, 0, 1, 0, 8, 8][..]),
+        (8, 3, 6, POOL_FULL, &[0, 0, 1, 0, 8, 8]),
+        (8, 2, 6, DIRECTORY_FULL, &[0, 0, 1, 0, 8, 8]),
+        (9, 3, 4, RECIPE_FULL, &[0, 0, 1, 0]),
+        (8, 2, 4, RECIPE_FULL, &[0, 0, 1, 0]),
+        (9, 3, 6, ACCEPTED, &[0, 0, 1, 0, 2, 8]),
+    ] {
+        let store = Store::new([2, 0, 0], &vec![7; pool], &vec![7; 2 * entries]);
+        let pair = Pair::new(&store, &Lent::new(&vec![8; places]), &job);
+        let (found, after) = pair.compare(tally)?;
+        if found != refusal || after.recipe[..] != *recipe {
+            return Err(format!(
+                "Refusal {found} came and not {refusal}, or another recipe than {recipe:?}: {after:#?}"
+            ));
+        }
+    }
+    Ok(())
+}
+
+/// Takes a job of equal bytes that has this many chunks, the first of them new, and compares its saving.
 fn check_packets(numbers: usize, packets: i64, tally: &mut Tally) -> Result<(), String> {
     let store = Store::new([1, 0, 0], &[7; 2], &[7; 2]);
     let job = vec![5; 2 * numbers];
     let recipe = Lent::new(&vec![8; numbers]);
-    let (refusal, after) = compare(&Admit::new(&store, &recipe, &job), tally)?;
+    let (refusal, after) = Pair::new(&store, &recipe, &job).compare(tally)?;
     let expected = job.len() as i64 - 2 - 72 * packets;
     if refusal != ACCEPTED || after.counts[0] != numbers as u64 || after.saving[0] != expected {
         let (counts, saving) = (&after.counts[..], after.saving[0]);

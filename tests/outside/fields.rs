@@ -1,7 +1,7 @@
-//! Several changed fields: a revision of an accepted job is charged at most the sum of a ceiling for
-//! each field that it changes.
+//! Several changed fields: a revision of an accepted job, quoted or taken, is charged at most the sum of
+//! a ceiling for each field that it changes.
 
-use crate::history::{Accepted, History, Step};
+use crate::history::{Answer, History, Step};
 use crate::jobs;
 use crate::memory::Lent;
 use crate::promise::{check_pairs, qualifies};
@@ -64,7 +64,7 @@ fn ceiling(window: usize, fields: &[Field]) -> Option<usize> {
 }
 
 /// A history of jobs that fill in a template, and of others. Of each step it has the contents of the
-/// fields, or none where another job is admitted.
+/// fields, or none where it is another job's.
 #[derive(Clone, Debug)]
 struct Revisions {
     template: Template,
@@ -75,10 +75,10 @@ struct Revisions {
 impl Case for Revisions {
     fn check(&self, tally: &mut Tally) -> Result<(), String> {
         let window = self.history.window;
-        let accepted = self.history.run(tally)?;
-        check_pairs(window, &accepted, tally)?;
-        for (index, later) in accepted.iter().enumerate() {
-            for earlier in &accepted[..index] {
+        let answers = self.history.run(tally)?;
+        check_pairs(window, &answers, tally)?;
+        for (index, later) in answers.iter().enumerate() {
+            for earlier in answers[..index].iter().filter(|answer| answer.taken) {
                 self.check_pair(window as usize, earlier, later, tally)?;
             }
         }
@@ -136,11 +136,11 @@ impl Revisions {
     fn check_pair(
         &self,
         window: usize,
-        old: &Accepted,
-        revision: &Accepted,
+        old: &Answer,
+        revision: &Answer,
         tally: &mut Tally,
     ) -> Result<(), String> {
-        let contents = [old, revision].map(|accepted| self.contents[accepted.step].as_ref());
+        let contents = [old, revision].map(|answer| self.contents[answer.step].as_ref());
         let [Some(before), Some(after)] = contents else {
             return Ok(());
         };
@@ -159,7 +159,8 @@ impl Revisions {
             ));
         }
         if ceiling < revision.job.len() {
-            tally.count_fields(fields.len(), revision.new_bytes, ceiling as u64);
+            let (charge, ceiling) = (revision.new_bytes, ceiling as u64);
+            tally.count_fields(revision.taken, fields.len(), charge, ceiling);
         }
         Ok(())
     }
@@ -174,8 +175,8 @@ pub fn run(random: &mut Random, histories: u64, tally: &mut Tally) -> Result<(),
     Ok(())
 }
 
-/// Checks that the sum is reached: in each of two fields 257 and 3 new bytes, where 1 byte is
-/// changed, the place is 2 and the window is 1.
+/// Checks that the sum is reached by a quote and by the take after it: in each of two fields 257 and 3
+/// new bytes, where 1 byte is changed, the place is 2 and the window is 1.
 fn check_tight_example() -> Result<(), String> {
     let rise: Vec<u8> = (0..=255).collect();
     let template = Template {
@@ -183,29 +184,30 @@ fn check_tight_example() -> Result<(), String> {
         opening: rise,
     };
     let contents = [[vec![], vec![]], [vec![3], vec![4]]].map(Vec::from);
-    let steps = contents.iter().map(|contents| Step {
-        job: Lent::new(&template.job(contents)),
+    let steps = [(true, 0), (false, 1), (true, 1)].map(|(takes, index): (bool, usize)| Step {
+        takes,
+        job: Lent::new(&template.job(&contents[index])),
         recipe: Lent::new(&[9; 50]),
     });
     let history = History {
         window: 1,
         pool: Lent::new(&[9; 2_000]),
         directory: Lent::new(&[9; 100]),
-        steps: steps.collect(),
+        steps: steps.to_vec(),
     };
-    let accepted = history.run(&mut Tally::default())?;
-    let charge = accepted[1].new_bytes;
+    let answers = history.run(&mut Tally::default())?;
+    let charges = [1, 2].map(|step: usize| answers[step].new_bytes);
     let sum = ceiling(1, &template.changed(&contents[0], &contents[1]));
-    if (charge, sum) == (520, Some(520)) {
+    if (charges, sum) == ([520; 2], Some(520)) {
         return Ok(());
     }
     Err(format!(
-        "The example's charge is {charge} and its ceiling {sum:?}, not 520."
+        "The example's charges are {charges:?} and its ceiling {sum:?}, not 520."
     ))
 }
 
-/// A history of a job, revisions of it and of them, and jobs between, with some admissions to be
-/// refused.
+/// A history of a job, revisions of it and of them, and jobs between, each quoted, taken or both, with
+/// some calls to be refused.
 fn revisions(random: &mut Random) -> Revisions {
     let window = 1 + random.below(2) as u32;
     let template = template(random, window);
@@ -213,13 +215,13 @@ fn revisions(random: &mut Random) -> Revisions {
     let mut contents = Vec::new();
     let mut steps = Vec::new();
     for _ in 0..3 + random.below(4) {
-        steps.push(Step::random(random, &template.job(&filled)));
-        contents.push(Some(filled.clone()));
+        steps.extend(Step::random(random, &template.job(&filled)));
+        contents.resize(steps.len(), Some(filled.clone()));
         if random.once_in(3) {
             let length = random.pick(&[0, 10, 900]);
             let between = jobs::job(random, window, length);
-            steps.push(Step::random(random, &between));
-            contents.push(None);
+            steps.extend(Step::random(random, &between));
+            contents.resize(steps.len(), None);
         }
         for field in &mut filled {
             if !random.once_in(4) {

@@ -1,4 +1,5 @@
-//! Stores that no admission has made: valid ones, also with the same chunk twice, and damaged ones.
+//! Stores that no take has made: valid ones, also with the same chunk twice, and damaged ones. Recipes
+//! that hold anything before a call.
 
 use crate::jobs;
 use crate::memory::{Lent, Store};
@@ -30,6 +31,20 @@ pub fn store(random: &mut Random) -> (Store, Vec<u8>) {
         Store::of_chunks(window, &held, &spare_pool, &spare_directory),
         job,
     )
+}
+
+/// Recipe memory of any numbers, of small ones, or of ones near a power of two.
+pub fn recipe(random: &mut Random, places: usize) -> Lent<u32> {
+    let base = random.pick(&[0, 1 << 15, 1 << 16, 1 << 24, 1 << 30, 1 << 31, u32::MAX]);
+    let numbers = random.numbers(places).into_iter();
+    if random.once_in(2) {
+        Lent::new(&numbers.collect::<Vec<u32>>())
+    } else {
+        let near: Vec<u32> = numbers
+            .map(|number| base.wrapping_add(number % 300))
+            .collect();
+        Lent::new(&near)
+    }
 }
 
 /// A chunk of the same length that differs in one byte, or one that is longer or shorter by a byte

@@ -1,38 +1,55 @@
-//! Admissions one after another to one store, from a fresh head on.
+//! Quotes and takes one after another with one store, from a fresh head on.
 
 use crate::call::compare;
+use crate::forging;
 use crate::memory::{Lent, Store};
 use crate::model::{chunks, ACCEPTED, OUTPUT_SHORT, RECIPE_LIMIT};
+use crate::pair::Pair;
 use crate::random::Random;
 use crate::shrink::{shorter, smaller_bytes, without_block, Case, Smaller};
-use crate::store_calls::{Admit, Look, Rebuild, StoreOpen};
+use crate::store_calls::{Look, Rebuild, StoreOpen, Take};
 use crate::tally::Tally;
 use std::collections::HashMap;
 
-/// One admission of a history: the job and the recipe memory that is lent.
+/// A quote or a take of a history: the job and the recipe memory that is lent.
 #[derive(Clone, Debug)]
 pub struct Step {
+    pub takes: bool,
     pub job: Lent<u8>,
     pub recipe: Lent<u32>,
 }
 
 impl Step {
-    /// An admission of a job; in some cases the recipe memory is too short for it or over the
-    /// limit.
-    pub fn random(random: &mut Random, job: &[u8]) -> Self {
-        let places = match random.below(200) {
-            0 => RECIPE_LIMIT + 1,
-            1..=20 => random.below(100),
-            _ => job.len(),
-        };
-        Step {
-            job: Lent::new(job),
-            recipe: Lent::new(&random.numbers(places)),
-        }
+    /// One or two quotes and takes of a job; in some cases the recipe memory is too short for it or over
+    /// the limit.
+    pub fn random(random: &mut Random, job: &[u8]) -> Vec<Self> {
+        let choices: [&[bool]; 5] = [
+            &[false],
+            &[true],
+            &[false, true],
+            &[true, false],
+            &[true, true],
+        ];
+        random
+            .pick(&choices)
+            .iter()
+            .map(|&takes| {
+                let places = match random.below(200) {
+                    0 => RECIPE_LIMIT + 1,
+                    1..=20 => random.below(100),
+                    _ => job.len(),
+                };
+                Step {
+                    takes,
+                    job: Lent::new(job),
+                    recipe: forging::recipe(random, places),
+                }
+            })
+            .collect()
     }
 }
 
-/// Admissions to a store that starts with a fresh head and with a pool and a directory of any
+/// Quotes and takes with a store that starts with a fresh head and with a pool and a directory of any
 /// contents.
 #[derive(Clone, Debug)]
 pub struct History {
@@ -42,10 +59,11 @@ pub struct History {
     pub steps: Vec<Step>,
 }
 
-/// A job that was accepted at a step, counted from 0, with the recipe that its admission left and
-/// the bytes of its new chunks.
-pub struct Accepted<'a> {
+/// A quote or a take that was not refused, at a step counted from 0, with the recipe that it left and
+/// the bytes of the job's new chunks. Only a take makes the job an accepted one.
+pub struct Answer<'a> {
     pub step: usize,
+    pub taken: bool,
     pub job: &'a [u8],
     pub recipe: Vec<u32>,
     pub new_bytes: u64,
@@ -55,8 +73,7 @@ pub struct Accepted<'a> {
 type Appearances<'a> = HashMap<&'a [u8], u32>;
 
 impl History {
-    /// These admissions to a store of so many pool bytes and directory entries, in some cases of
-    /// fewer.
+    /// These steps with a store of so many pool bytes and directory entries, in some cases of fewer.
     pub fn random(
         random: &mut Random,
         window: u32,
@@ -78,9 +95,10 @@ impl History {
         }
     }
 
-    /// Makes the admissions, compares each with the model and with the chunks' first appearances,
-    /// and rebuilds every accepted job at the end. Gives the accepted jobs.
-    pub fn run(&self, tally: &mut Tally) -> Result<Vec<Accepted<'_>>, String> {
+    /// Makes the quotes and takes, compares each with the model, with the other on the same inputs and
+    /// with the chunks' first appearances, and rebuilds every accepted job at the end. Gives the
+    /// answers.
+    pub fn run(&self, tally: &mut Tally) -> Result<Vec<Answer<'_>>, String> {
         let (_, opened) = compare(&StoreOpen::new(self.window), tally)?;
         let mut store = Store {
             head: opened.head,
@@ -88,41 +106,49 @@ impl History {
             directory: self.directory.clone(),
         };
         let mut appearances = Appearances::new();
-        let mut accepted = Vec::new();
+        let mut answers = Vec::new();
         for (index, step) in self.steps.iter().enumerate() {
-            let (refusal, after) = compare(&Admit::new(&store, &step.recipe, &step.job), tally)?;
+            let pair = Pair::new(&store, &step.recipe, &step.job);
+            let (refusal, after) = pair.compare(tally)?;
             if refusal == ACCEPTED {
-                check_appearances(&mut appearances, self.window, &step.job, &after)?;
-                accepted.push(Accepted {
+                let new = check_appearances(&appearances, self.window, &step.job, &after)?;
+                if step.takes {
+                    appearances.extend(new);
+                }
+                answers.push(Answer {
                     step: index,
+                    taken: step.takes,
                     job: &step.job,
                     recipe: after.written_recipe().to_vec(),
                     new_bytes: after.counts[1],
                 });
             }
-            store = after.store;
+            if step.takes {
+                store = after.store;
+            }
         }
-        for (index, job) in accepted.iter().enumerate() {
-            check_rebuilt(&store, job, index % 3, tally)?;
+        let accepted = answers.iter().filter(|answer| answer.taken);
+        for (index, accepted) in accepted.enumerate() {
+            check_rebuilt(&store, accepted, index % 3, tally)?;
         }
-        Ok(accepted)
+        Ok(answers)
     }
 
-    /// Histories with fewer admissions, shorter jobs or less memory.
+    /// Histories with fewer steps, shorter jobs or less memory.
     pub fn smaller_histories(&self) -> impl Iterator<Item = Self> + '_ {
         let fewer = without_block(&self.steps).map(|steps| History {
             steps,
             ..self.clone()
         });
         let steps = (0..self.steps.len()).flat_map(move |index| {
-            let Step { job, recipe } = &self.steps[index];
-            let jobs = smaller_bytes(job).map(|job| Step {
+            let step = &self.steps[index];
+            let jobs = smaller_bytes(&step.job).map(|job| Step {
                 job: Lent::new(&job),
-                recipe: recipe.clone(),
+                ..step.clone()
             });
-            let recipes = shorter(recipe).map(|recipe| Step {
-                job: job.clone(),
+            let recipes = shorter(&step.recipe).map(|recipe| Step {
                 recipe,
+                ..step.clone()
             });
             recipes.chain(jobs).map(move |step| {
                 let mut smaller = self.clone();
@@ -152,18 +178,22 @@ impl Case for History {
     }
 }
 
-/// Compares the answer of an accepted admission with the first appearances of its chunks.
+/// Compares an answer with the first appearances of the job's chunks. Gives those that it adds.
 fn check_appearances<'a>(
-    appearances: &mut Appearances<'a>,
+    before: &Appearances<'a>,
     window: u32,
     job: &'a [u8],
-    after: &Admit,
-) -> Result<(), String> {
+    after: &Take,
+) -> Result<Appearances<'a>, String> {
+    let mut new = Appearances::new();
     let mut recipe = Vec::new();
     let mut new_bytes = 0;
     for chunk in chunks::chunks(window, job) {
-        let next = appearances.len() as u32;
-        let number = *appearances.entry(chunk).or_insert(next);
+        let next = (before.len() + new.len()) as u32;
+        let number = match before.get(chunk) {
+            Some(&number) => number,
+            None => *new.entry(chunk).or_insert(next),
+        };
         if number == next {
             new_bytes += chunk.len() as u64;
         }
@@ -176,7 +206,7 @@ fn check_appearances<'a>(
     );
     let expected = (&recipe[..], new_bytes, job.len() as u64);
     if answer == expected {
-        return Ok(());
+        return Ok(new);
     }
     Err(format!(
         "Recipe, new bytes and job length are {answer:?} by the library, \
@@ -188,7 +218,7 @@ fn check_appearances<'a>(
 /// output that is one byte too short must be refused.
 fn check_rebuilt(
     store: &Store,
-    job: &Accepted,
+    job: &Answer,
     spare: usize,
     tally: &mut Tally,
 ) -> Result<(), String> {

@@ -34,8 +34,8 @@ pub fn store_open(window: u32, head: &mut [u32]) -> u32 {
     unsafe { hirunvel_store_open(window, array(head)) }
 }
 
-/// Admits a job to a store.
-pub fn admit(
+/// Quotes a job.
+pub fn quote(
     store: &mut Store,
     recipe: &mut [u32],
     job: &mut [u8],
@@ -44,7 +44,33 @@ pub fn admit(
 ) -> u32 {
     // SAFETY: each pointer and its length are those of a slice, and no two arrays or slices overlap.
     unsafe {
-        hirunvel_store_admit(
+        hirunvel_store_quote(
+            array(&mut store.head),
+            store.pool.as_mut_ptr(),
+            store.pool.len(),
+            store.directory.as_mut_ptr(),
+            store.directory.len(),
+            recipe.as_mut_ptr(),
+            recipe.len(),
+            job.as_mut_ptr(),
+            job.len(),
+            array(counts),
+            array(saving),
+        )
+    }
+}
+
+/// Takes a job into a store.
+pub fn take(
+    store: &mut Store,
+    recipe: &mut [u32],
+    job: &mut [u8],
+    counts: &mut [u64],
+    saving: &mut [i64],
+) -> u32 {
+    // SAFETY: each pointer and its length are those of a slice, and no two arrays or slices overlap.
+    unsafe {
+        hirunvel_store_take(
             array(&mut store.head),
             store.pool.as_mut_ptr(),
             store.pool.len(),

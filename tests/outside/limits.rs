@@ -5,10 +5,11 @@ use crate::hirunvel::CHUNK_LIMIT;
 use crate::jobs;
 use crate::memory::{Lent, Store};
 use crate::model::*;
+use crate::pair::Pair;
 use crate::random::Random;
 use crate::scanner_calls::Feed;
 use crate::shrink::shrink;
-use crate::store_calls::{Admit, Look, Rebuild};
+use crate::store_calls::{Look, Rebuild, Take};
 use crate::tally::Tally;
 
 /// Checks them all.
@@ -31,19 +32,20 @@ fn expect<C: Call>(call: &C, refusal: u32, tally: &mut Tally) -> Result<C, Strin
     }
 }
 
-/// Admits a job with a recipe memory of some numbers.
-fn admit(
+/// Quotes and takes a job with a recipe memory of some numbers. Gives the take.
+fn take(
     store: &Store,
     places: usize,
     job: &[u8],
     refusal: u32,
     tally: &mut Tally,
-) -> Result<Admit, String> {
-    expect(
-        &Admit::new(store, &Lent::new(&used(places)), job),
-        refusal,
-        tally,
-    )
+) -> Result<Take, String> {
+    let pair = Pair::new(store, &Lent::new(&used(places)), job);
+    match pair.compare(tally) {
+        Ok((found, after)) if found == refusal => Ok(after),
+        Ok((found, _)) => Err(format!("Refusal {found} came and not {refusal}: {pair:#?}")),
+        Err(fault) => Err(shrink(&pair, fault)),
+    }
 }
 
 /// Looks at a chunk.
@@ -78,17 +80,17 @@ fn longest_jobs(random: &mut Random, tally: &mut Tally) -> Result<(), String> {
         *byte = random.byte();
     }
     let fresh = Store::new([WINDOW_LIMIT, 0, 0], &used(JOB_LIMIT), &used(60_000));
-    let after = admit(&fresh, 30_000, &job, ACCEPTED, tally)?;
+    let after = take(&fresh, 30_000, &job, ACCEPTED, tally)?;
     let (store, recipe) = (&after.store, after.written_recipe());
     rebuild(store, recipe, JOB_LIMIT, ACCEPTED, tally)?;
     rebuild(store, recipe, JOB_LIMIT - 1, OUTPUT_SHORT, tally)?;
-    admit(store, 30_000, &job, ACCEPTED, tally)?;
+    take(store, 30_000, &job, ACCEPTED, tally)?;
     let mut full = store.clone();
     full.pool = Lent::new(&store.pool[..store.head[2] as usize]);
     job[JOB_LIMIT / 2] ^= 0x80;
-    admit(&full, 30_000, &job, POOL_FULL, tally)?;
+    take(&full, 30_000, &job, POOL_FULL, tally)?;
     job.push(0);
-    admit(store, 30_000, &job, JOB_LENGTH, tally)?;
+    take(store, 30_000, &job, JOB_LENGTH, tally)?;
     expect(&Feed::new(&[WINDOW_LIMIT, 0, 0, 0], &job), ACCEPTED, tally)?;
     Ok(())
 }
@@ -101,10 +103,10 @@ fn longest_recipes(random: &mut Random, tally: &mut Tally) -> Result<(), String>
         let fresh = Store::new([window, 0, 0], &used(2_000), &used(10));
         let job = vec![random.byte(); chunk * (RECIPE_LIMIT + 1)];
         let fitting = &job[chunk..];
-        let after = admit(&fresh, RECIPE_LIMIT, fitting, ACCEPTED, tally)?;
-        admit(&fresh, RECIPE_LIMIT - 1, fitting, RECIPE_FULL, tally)?;
-        admit(&fresh, RECIPE_LIMIT, &job, RECIPE_FULL, tally)?;
-        admit(&fresh, RECIPE_LIMIT + 1, fitting, MEMORY_LIMIT, tally)?;
+        let after = take(&fresh, RECIPE_LIMIT, fitting, ACCEPTED, tally)?;
+        take(&fresh, RECIPE_LIMIT - 1, fitting, RECIPE_FULL, tally)?;
+        take(&fresh, RECIPE_LIMIT, &job, RECIPE_FULL, tally)?;
+        take(&fresh, RECIPE_LIMIT + 1, fitting, MEMORY_LIMIT, tally)?;
         let store = &after.store;
         rebuild(store, &after.recipe, job.len(), ACCEPTED, tally)?;
         let over = [&after.recipe[..], &[0]].concat();
@@ -122,7 +124,7 @@ fn least_saving(tally: &mut Tally) -> Result<(), String> {
     let chunk = |i: usize| [i % 128 + 128, i / 128 % 128, i / 16_384].map(|byte| byte as u8);
     let job: Vec<u8> = (0..RECIPE_LIMIT).flat_map(chunk).collect();
     let fresh = Store::new([2, 0, 0], &used(job.len()), &used(DIRECTORY_LIMIT));
-    let saving = admit(&fresh, RECIPE_LIMIT, &job, ACCEPTED, tally)?.saving[0];
+    let saving = take(&fresh, RECIPE_LIMIT, &job, ACCEPTED, tally)?.saving[0];
     let least = -147_456;
     if saving != least {
         return Err(format!("65,535 new chunks save {saving}, not {least}."));
@@ -138,18 +140,18 @@ fn longest_pools(random: &mut Random, tally: &mut Tally) -> Result<(), String> {
     let job = vec![0x11; WINDOW_LIMIT as usize + 1];
     let full = Store::of_chunks(WINDOW_LIMIT, &chunks, &[], &used(4));
     let recipe = [last as u32, 0];
-    admit(&full, 3, &job, POOL_FULL, tally)?;
+    take(&full, 3, &job, POOL_FULL, tally)?;
     look(&full, last as u32, ACCEPTED, tally)?;
     rebuild(&full, &recipe, 2 * length, ACCEPTED, tally)?;
     let over = Store::of_chunks(WINDOW_LIMIT, &chunks, &[0], &used(4));
-    admit(&over, 3, &job, MEMORY_LIMIT, tally)?;
+    take(&over, 3, &job, MEMORY_LIMIT, tally)?;
     look(&over, last as u32, MEMORY_LIMIT, tally)?;
     rebuild(&over, &recipe, 2 * length, MEMORY_LIMIT, tally)?;
     let mut roomy = full;
     for (spare, refusal) in [(job.len() - 1, POOL_FULL), (job.len(), ACCEPTED)] {
         roomy.head[2] = (POOL_LIMIT - spare) as u32;
         roomy.directory[2 * last + 1] = (length - spare) as u32;
-        admit(&roomy, 3, &job, refusal, tally)?;
+        take(&roomy, 3, &job, refusal, tally)?;
     }
     Ok(())
 }
@@ -163,16 +165,16 @@ fn longest_directories(random: &mut Random, tally: &mut Tally) -> Result<(), Str
     let roomy = Store::of_chunks(1, &chunks[1..], &used(20), &used(2));
     let one_new = [0, 1, 2, 3, 0];
     let two_new = [0, 1, 2, 3, 0, 7, 8, 9, 0];
-    admit(&full, 5, &chunks[40_000], ACCEPTED, tally)?;
-    admit(&full, 5, &one_new, DIRECTORY_FULL, tally)?;
-    admit(&roomy, 5, &one_new, ACCEPTED, tally)?;
-    admit(&roomy, 5, &two_new, DIRECTORY_FULL, tally)?;
+    take(&full, 5, &chunks[40_000], ACCEPTED, tally)?;
+    take(&full, 5, &one_new, DIRECTORY_FULL, tally)?;
+    take(&roomy, 5, &one_new, ACCEPTED, tally)?;
+    take(&roomy, 5, &two_new, DIRECTORY_FULL, tally)?;
     look(&full, 65_534, ACCEPTED, tally)?;
     look(&full, 65_535, CHUNK_NUMBER, tally)?;
     rebuild(&full, &[65_534, 0], 4, ACCEPTED, tally)?;
     for more in [1, 2] {
         let over = Store::of_chunks(1, &chunks, &used(20), &used(more));
-        admit(&over, 5, &one_new, MEMORY_LIMIT, tally)?;
+        take(&over, 5, &one_new, MEMORY_LIMIT, tally)?;
         look(&over, 0, MEMORY_LIMIT, tally)?;
         rebuild(&over, &[0], 4, MEMORY_LIMIT, tally)?;
     }
@@ -195,11 +197,11 @@ fn longest_chunks(tally: &mut Tally) -> Result<(), String> {
         return Err(format!("The feeds of the longest chunk give {fed:?}."));
     }
     let fresh = Store::new([WINDOW_LIMIT, 0, 0], &used(2 * longest), &used(4));
-    let after = admit(&fresh, 2, &job, ACCEPTED, tally)?;
+    let after = take(&fresh, 2, &job, ACCEPTED, tally)?;
     rebuild(&after.store, &[1, 0], job.len() + 1, ACCEPTED, tally)?;
-    admit(&fresh, 1, &job, RECIPE_FULL, tally)?;
+    take(&fresh, 1, &job, RECIPE_FULL, tally)?;
     let tight = Store::new([WINDOW_LIMIT, 0, 0], &used(2 * longest - 1), &used(4));
-    admit(&tight, 2, &job, POOL_FULL, tally)?;
+    take(&tight, 2, &job, POOL_FULL, tally)?;
     Ok(())
 }
 
@@ -214,7 +216,7 @@ fn largest_sums(tally: &mut Tally) -> Result<(), String> {
         .flat_map(|entry| [(entry * length) as u32, length as u32])
         .collect();
     let wrapped = Store::new([WINDOW_LIMIT, count as u32, 0], &used(40), &directory);
-    admit(&wrapped, 4, &[1, 2, 3], HEAD, tally)?;
+    take(&wrapped, 4, &[1, 2, 3], HEAD, tally)?;
     look(&wrapped, 0, HEAD, tally)?;
     rebuild(&wrapped, &[0], 40, HEAD, tally)?;
     Ok(())

@@ -9,7 +9,6 @@
 //! `--rounds` multiplies the work; `--small` does a small part of it and demands no counts. The
 //! first difference ends the run with status 1, after the smallest case that was found.
 
-mod admitting;
 mod call;
 mod calling;
 mod examples;
@@ -24,12 +23,16 @@ mod library;
 mod limits;
 mod memory;
 mod model;
+mod pair;
 mod promise;
 mod random;
 mod rebuilding;
+mod repeats;
+mod room;
 mod scanner_calls;
 mod shrink;
 mod store_calls;
+mod taking;
 mod tally;
 
 use random::Random;
@@ -83,13 +86,16 @@ fn run(options: &Options, tally: &mut Tally) -> Result<(), String> {
     feeding::run(&mut random, amount(1_200_000), tally)?;
     calling::run(&mut random, amount(40_000), tally)?;
     rebuilding::run(&mut random, tally)?;
-    admitting::run(&mut random, amount(200_000), tally)?;
+    room::run(&mut random, tally)?;
+    repeats::run(&mut random, amount(4_000), tally)?;
+    taking::run(&mut random, amount(400_000), tally)?;
     promise::run(&mut random, amount(1_500), tally)?;
     fields::run(&mut random, amount(1_000), tally)?;
     if options.small {
         return Ok(());
     }
     limits::run(&mut random, tally)?;
+    repeats::longest(&mut random, tally)?;
     tally.shortfall()
 }
 

@@ -1,7 +1,7 @@
 //! Demand 3: a revision of an accepted job is charged at most a ceiling, and its cuts and chunk
-//! numbers fall in line with those of the old job again.
+//! numbers fall in line with those of the old job again. It holds of quotes of revisions as of takes.
 
-use crate::history::{Accepted, History, Step};
+use crate::history::{Answer, History, Step};
 use crate::jobs;
 use crate::memory::Lent;
 use crate::model::chunks;
@@ -9,13 +9,13 @@ use crate::random::Random;
 use crate::shrink::{hold, Case, Smaller};
 use crate::tally::Tally;
 
-/// A history for whose every pair of accepted jobs demand 3 is checked.
+/// A history for whose every accepted job and every later quote or take demand 3 is checked.
 #[derive(Clone, Debug)]
 struct Revisions(History);
 
-/// An accepted job with its cuts.
+/// A job that was quoted or taken, with its cuts.
 struct Cut<'a> {
-    accepted: &'a Accepted<'a>,
+    answer: &'a Answer<'a>,
     cuts: Vec<usize>,
 }
 
@@ -38,19 +38,22 @@ impl Case for Revisions {
     }
 }
 
-/// Checks demand 3 for every two of the accepted jobs.
-pub fn check_pairs(window: u32, accepted: &[Accepted], tally: &mut Tally) -> Result<(), String> {
-    let jobs: Vec<Cut> = accepted
-        .iter()
-        .map(|accepted| Cut {
-            accepted,
-            cuts: chunks::cuts(window, accepted.job),
-        })
-        .collect();
-    for later in 1..jobs.len() {
-        for earlier in 0..later {
-            check_pair(window as usize, &jobs[earlier], &jobs[later], tally)
-                .map_err(|fault| format!("Accepted jobs {earlier} and {later}, from 0: {fault}"))?;
+/// Checks demand 3 for every accepted job and every later quote or take that was not refused.
+pub fn check_pairs(window: u32, answers: &[Answer], tally: &mut Tally) -> Result<(), String> {
+    let mut taken: Vec<Cut> = Vec::new();
+    for answer in answers {
+        let revision = Cut {
+            answer,
+            cuts: chunks::cuts(window, answer.job),
+        };
+        for old in &taken {
+            check_pair(window as usize, old, &revision, tally).map_err(|fault| {
+                let (old, revision) = (old.answer.step, answer.step);
+                format!("Old job of step {old} and revision of step {revision}, from 0: {fault}")
+            })?;
+        }
+        if answer.taken {
+            taken.push(revision);
         }
     }
     Ok(())
@@ -59,7 +62,7 @@ pub fn check_pairs(window: u32, accepted: &[Accepted], tally: &mut Tally) -> Res
 /// Checks demand 3 for some of the divisions of two jobs, the one with the longest ending among
 /// them.
 fn check_pair(window: usize, old: &Cut, revision: &Cut, tally: &mut Tally) -> Result<(), String> {
-    let (a, b) = (old.accepted.job, revision.accepted.job);
+    let (a, b) = (old.answer.job, revision.answer.job);
     let shorter = a.len().min(b.len());
     let same_beginning = a.iter().zip(b).take_while(|(x, y)| x == y).count();
     let same_ending = a
@@ -87,7 +90,7 @@ fn check_pair(window: usize, old: &Cut, revision: &Cut, tally: &mut Tally) -> Re
 impl Division<'_> {
     /// Checks demand 3 at each place of the ending that qualifies.
     fn check(&self, tally: &mut Tally) -> Result<(), String> {
-        let old_job = self.old.accepted.job;
+        let old_job = self.old.answer.job;
         let ending = &old_job[old_job.len() - self.ending..];
         for place in self.window + 1..=self.ending.saturating_sub(self.window) {
             if qualifies(self.window, ending, place) {
@@ -102,7 +105,7 @@ impl Division<'_> {
 
     /// Checks the ceiling, the cuts and the chunk numbers for one place of the ending.
     fn check_place(&self, place: usize, tally: &mut Tally) -> Result<(), String> {
-        let revision = self.revision.accepted;
+        let revision = self.revision.answer;
         let changed = revision.job.len() - self.beginning - self.ending;
         let (charge, ceiling) = (
             revision.new_bytes,
@@ -120,19 +123,18 @@ impl Division<'_> {
                 "Cuts and numbers are {old:?} in the old job, {new:?} in the revision."
             ));
         }
-        tally.places += 1;
-        tally.nearest = tally.nearest.max(charge as f64 * 100.0 / ceiling as f64);
+        tally.count_place(revision.taken, charge, ceiling);
         Ok(())
     }
 
     /// The cuts of a job from this place of the ending on, at which a cut must be, and the numbers
     /// of the chunks that start after it.
     fn from_cut<'a>(&self, job: &'a Cut, place: usize) -> Result<(Vec<usize>, &'a [u32]), String> {
-        let start = job.accepted.job.len() - self.ending;
+        let start = job.answer.job.len() - self.ending;
         match job.cuts.binary_search(&(start + place)) {
             Ok(index) => Ok((
                 job.cuts[index..].iter().map(|cut| cut - start).collect(),
-                &job.accepted.recipe[index + 1..],
+                &job.answer.recipe[index + 1..],
             )),
             Err(_) => Err(format!("No cut stands at place {place} of the ending.")),
         }
@@ -151,58 +153,80 @@ pub fn qualifies(window: usize, ending: &[u8], place: usize) -> bool {
             .all(|&after| after <= byte)
 }
 
-/// Checks the example in which the charge is the ceiling, then this many histories made at random.
+/// Checks the examples, then this many histories made at random.
 pub fn run(random: &mut Random, histories: u64, tally: &mut Tally) -> Result<(), String> {
     check_tight_example()?;
+    check_quoted_only_example()?;
     for _ in 0..histories {
         hold(&Revisions(history(random)), tally)?;
     }
     Ok(())
 }
 
-/// Checks that the ceiling is reached: 257 and 3 new bytes, where 1 byte is changed, the place is 2
-/// and the window is 1.
+/// A history with window 1, ample memory, and these jobs, each quoted or taken.
+fn example(jobs: &[(bool, &[u8])]) -> History {
+    let steps = jobs.iter().map(|&(takes, job)| Step {
+        takes,
+        job: Lent::new(job),
+        recipe: Lent::new(&[9; 500]),
+    });
+    History {
+        window: 1,
+        pool: Lent::new(&[9; 2_000]),
+        directory: Lent::new(&[9; 500]),
+        steps: steps.collect(),
+    }
+}
+
+/// Checks that the ceiling is reached, by a quote and by the take after it: 257 and 3 new bytes, where
+/// 1 byte is changed, the place is 2 and the window is 1.
 fn check_tight_example() -> Result<(), String> {
     let rise: Vec<u8> = (0..=255).collect();
-    let jobs = [
-        [&rise[..], &[1, 2, 0]].concat(),
-        [&rise[..], &[3, 1, 2, 0]].concat(),
-    ];
-    let history = History {
-        window: 1,
-        pool: Lent::new(&[9; 1_000]),
-        directory: Lent::new(&[9; 100]),
-        steps: jobs
-            .iter()
-            .map(|job| Step {
-                job: Lent::new(job),
-                recipe: Lent::new(&[9; 50]),
-            })
-            .collect(),
-    };
+    let old = [&rise[..], &[1, 2, 0]].concat();
+    let revision = [&rise[..], &[3, 1, 2, 0]].concat();
     let mut tally = Tally::default();
+    let history = example(&[(true, &old), (false, &revision), (true, &revision)]);
     hold(&Revisions(history), &mut tally)?;
-    if tally.nearest != 100.0 {
+    if tally.nearest() != [100.0; 2] {
         return Err(format!(
-            "The example's charge is {} % of its ceiling and not 100.",
-            tally.nearest
+            "The example's charges are {:?} % of their ceiling and not 100.",
+            tally.nearest()
         ));
     }
     Ok(())
 }
 
-/// A history of a job, revisions of it and of them, and jobs between, with some admissions to be
-/// refused.
+/// Checks that a quote alone makes no job accepted: a revision of a job that was only quoted is charged
+/// whole, 460 bytes, where the ceiling after a take of the old job would be 260.
+fn check_quoted_only_example() -> Result<(), String> {
+    let rise: Vec<u8> = (0..=255).collect();
+    let ending: Vec<u8> = (0..100).flat_map(|byte| [100 + byte, byte]).collect();
+    let old = [&rise[..], &[1, 2, 0], &ending].concat();
+    let revision = [&rise[..], &[3, 1, 2, 0], &ending].concat();
+    for (takes, expected) in [(false, 460), (true, 260)] {
+        let history = example(&[(takes, &old), (false, &revision)]);
+        let charge = history.run(&mut Tally::default())?[1].new_bytes;
+        if charge != expected {
+            return Err(format!(
+                "Where the old job is taken: {takes}, the charge is {charge} and not {expected}."
+            ));
+        }
+    }
+    Ok(())
+}
+
+/// A history of a job, revisions of it and of them, and jobs between, each quoted, taken or both, with
+/// some calls to be refused.
 fn history(random: &mut Random) -> History {
     let window = 1 + random.below(2) as u32;
     let mut parts = parts(random, window);
     let mut steps = Vec::new();
     for _ in 0..3 + random.below(4) {
-        steps.push(Step::random(random, &parts.concat()));
+        steps.extend(Step::random(random, &parts.concat()));
         if random.once_in(3) {
             let length = random.pick(&[0, 10, 900]);
             let between = jobs::job(random, window, length);
-            steps.push(Step::random(random, &between));
+            steps.extend(Step::random(random, &between));
         }
         let changed = random.pick(&[0, 2, 2, 2, 3]);
         parts[changed] = self::parts(random, window)[changed].clone();

@@ -40,9 +40,9 @@ impl Call for StoreOpen {
     }
 }
 
-/// Admitting a job to a store.
+/// Quoting a job, or taking it into a store.
 #[derive(Clone, PartialEq, Debug)]
-pub struct Admit {
+pub struct JobCall<const TAKES: bool> {
     pub store: Store,
     pub recipe: Lent<u32>,
     pub job: Lent<u8>,
@@ -50,10 +50,16 @@ pub struct Admit {
     pub saving: Lent<i64>,
 }
 
-impl Admit {
-    /// Of this job to this store, with this memory for the recipe.
+/// Quoting a job.
+pub type Quote = JobCall<false>;
+
+/// Taking a job into a store.
+pub type Take = JobCall<true>;
+
+impl<const TAKES: bool> JobCall<TAKES> {
+    /// Of this job with this store and this memory for the recipe.
     pub fn new(store: &Store, recipe: &Lent<u32>, job: &[u8]) -> Self {
-        Admit {
+        JobCall {
             store: store.clone(),
             recipe: recipe.clone(),
             job: Lent::new(job),
@@ -62,41 +68,44 @@ impl Admit {
         }
     }
 
-    /// The recipe that an accepted admission left.
+    /// The recipe that an accepted call left.
     pub fn written_recipe(&self) -> &[u32] {
         &self.recipe[..self.counts[0] as usize]
     }
+
+    /// What a quote and a take on the same inputs must leave alike: recipe, counts and saving.
+    pub fn answer(&self) -> (&Lent<u32>, &Lent<u64>, &Lent<i64>) {
+        (&self.recipe, &self.counts, &self.saving)
+    }
 }
 
-impl Call for Admit {
-    const OPERATION: Operation = Operation::Admit;
+impl<const TAKES: bool> Call for JobCall<TAKES> {
+    const OPERATION: Operation = if TAKES {
+        Operation::Take
+    } else {
+        Operation::Quote
+    };
 
     fn by_library(&mut self) -> u32 {
-        library::admit(
-            &mut self.store,
-            &mut self.recipe,
-            &mut self.job,
-            &mut self.counts,
-            &mut self.saving,
-        )
+        let call = if TAKES { library::take } else { library::quote };
+        let (store, recipe, job) = (&mut self.store, &mut self.recipe, &mut self.job);
+        call(store, recipe, job, &mut self.counts, &mut self.saving)
     }
 
     fn by_model(&mut self) -> u32 {
-        store::admit(
-            &mut self.store,
-            &mut self.recipe,
-            &self.job,
-            &mut self.counts,
-            &mut self.saving,
-        )
+        let (counts, saving) = (&mut self.counts, &mut self.saving);
+        if TAKES {
+            store::take(&mut self.store, &mut self.recipe, &self.job, counts, saving)
+        } else {
+            store::quote(&self.store, &mut self.recipe, &self.job, counts, saving)
+        }
     }
 
     fn smaller_calls(&self) -> Smaller<'_, Self> {
-        let jobs = smaller_bytes(&self.job).map(|job| Admit::new(&self.store, &self.recipe, &job));
-        let recipes =
-            shorter(&self.recipe).map(|recipe| Admit::new(&self.store, &recipe, &self.job));
-        let stores =
-            smaller_stores(&self.store).map(|store| Admit::new(&store, &self.recipe, &self.job));
+        let (store, recipe, job) = (&self.store, &self.recipe, &self.job);
+        let jobs = smaller_bytes(job).map(|job| JobCall::new(store, recipe, &job));
+        let recipes = shorter(recipe).map(|recipe| JobCall::new(store, &recipe, job));
+        let stores = smaller_stores(store).map(|store| JobCall::new(&store, recipe, job));
         Box::new(stores.chain(recipes).chain(jobs))
     }
 }

@@ -7,38 +7,53 @@ pub enum Operation {
     Feed,
     Finish,
     StoreOpen,
-    Admit,
+    Quote,
+    Take,
     Look,
     Rebuild,
 }
 
 /// The operations, each with its name in the report and the grounds that it tests.
-const OPERATIONS: [(Operation, &str, &[u32]); 7] = [
+const OPERATIONS: [(Operation, &str, &[u32]); 8] = [
     (Operation::ScannerOpen, "scanner openings", &[1]),
     (Operation::Feed, "feeds", &[1, 2]),
     (Operation::Finish, "finishes", &[1, 2]),
     (Operation::StoreOpen, "store openings", &[1]),
-    (Operation::Admit, "admissions", &[1, 3, 4, 5, 6, 7, 8]),
+    (Operation::Quote, "quotes", &[1, 3, 4, 5, 6, 7, 8]),
+    (Operation::Take, "takes", &[1, 3, 4, 5, 6, 7, 8]),
     (Operation::Look, "looks", &[1, 4, 5, 9]),
     (Operation::Rebuild, "rebuildings", &[1, 4, 5, 9, 10]),
 ];
+
+/// The names in the report of revisions that were quoted and of those that were taken.
+const REVISIONS: [&str; 2] = ["quoted", "taken"];
 
 /// How often each refusal that an operation tests must come in a full run, and how often it must
 /// accept.
 const LEAST_OUTCOMES: u64 = 20;
 
+/// How often demand 3 must be checked in a full run.
+const LEAST_PLACES: u64 = 100_000;
+
 /// How many revisions of each number of changed fields must come near their ceiling in a full run.
 const LEAST_NEAR: u64 = 50;
 
-/// Counts of the calls, of the checks of demand 3 and of those of several fields.
+/// Counts of the calls, and of the checks of revisions: first of those that were quoted, then of
+/// those that were taken.
 #[derive(Default)]
 pub struct Tally {
-    outcomes: [[u64; 11]; 7],
-    /// The places at which demand 3 was checked.
-    pub places: u64,
-    /// The largest charge in per cent of its ceiling, in jobs made at random.
-    pub nearest: f64,
-    fields: [Fields; 5],
+    outcomes: [[u64; 11]; 8],
+    promises: [Promises; 2],
+    fields: [[Fields; 5]; 2],
+}
+
+/// Counts of the checks of demand 3.
+#[derive(Default)]
+struct Promises {
+    /// The places at which it was checked.
+    places: u64,
+    /// The largest charge in per cent of its ceiling.
+    nearest: f64,
 }
 
 /// Counts of the revisions that change so many fields and whose ceiling is below their length.
@@ -57,9 +72,21 @@ impl Tally {
         self.outcomes[operation as usize][refusal as usize] += 1;
     }
 
-    /// Counts a revision that changes so many fields.
-    pub fn count_fields(&mut self, number: usize, charge: u64, ceiling: u64) {
-        let fields = &mut self.fields[number];
+    /// Counts a check of demand 3 for a revision that was quoted or taken.
+    pub fn count_place(&mut self, taken: bool, charge: u64, ceiling: u64) {
+        let promises = &mut self.promises[usize::from(taken)];
+        promises.places += 1;
+        promises.nearest = promises.nearest.max(charge as f64 * 100.0 / ceiling as f64);
+    }
+
+    /// The largest charges in per cent of their ceiling, of revisions that were quoted and taken.
+    pub fn nearest(&self) -> [f64; 2] {
+        [0, 1].map(|taken: usize| self.promises[taken].nearest)
+    }
+
+    /// Counts a revision that was quoted or taken and changes so many fields.
+    pub fn count_fields(&mut self, taken: bool, number: usize, charge: u64, ceiling: u64) {
+        let fields = &mut self.fields[usize::from(taken)][number];
         fields.revisions += 1;
         fields.near += u64::from(charge * 10 >= ceiling * 9);
         fields.met += u64::from(charge == ceiling);
@@ -84,15 +111,15 @@ impl Tally {
             }
             println!();
         }
-        println!(
-            "checks of demand 3: {}, largest charge {:.1} % of its ceiling",
-            self.places, self.nearest
-        );
-        for (number, fields) in self.fields.iter().enumerate() {
-            println!(
-                "fields changed {number}: {} revisions, {} at 90 % of the ceiling or more, {} at the ceiling",
-                fields.revisions, fields.near, fields.met
-            );
+        for (taken, name) in REVISIONS.iter().enumerate() {
+            let Promises { places, nearest } = self.promises[taken];
+            println!("revisions {name}: {places} checks of demand 3, largest charge {nearest:.1} % of its ceiling");
+            for (number, fields) in self.fields[taken].iter().enumerate() {
+                println!(
+                    "  fields changed {number}: {}, {} at 90 % of the ceiling or more, {} at the ceiling",
+                    fields.revisions, fields.near, fields.met
+                );
+            }
         }
     }
 
@@ -100,29 +127,42 @@ impl Tally {
     pub fn shortfall(&self) -> Result<(), String> {
         let totals = [
             (self.calls(Operation::Feed), 1_000_000, "feeds"),
-            (self.calls(Operation::Admit), 100_000, "admissions"),
-            (self.places, 100_000, "checks of demand 3"),
-            (self.nearest as u64, 90, "per cent of a ceiling"),
+            (self.calls(Operation::Quote), 100_000, "quotes"),
+            (self.calls(Operation::Take), 100_000, "takes"),
         ];
         for (count, least, name) in totals {
             if count < least {
                 return Err(format!("only {count} {name}, and {least} are wanted"));
             }
         }
-        for (number, fields) in self.fields.iter().enumerate() {
-            if fields.near < LEAST_NEAR {
-                return Err(format!(
-                    "only {} revisions with {number} changed fields came near their ceiling",
-                    fields.near
-                ));
-            }
-        }
+        self.revision_shortfall()?;
         for (operation, name, grounds) in OPERATIONS {
             for &ground in [0].iter().chain(grounds) {
                 let count = self.outcomes[operation as usize][ground as usize];
                 if count < LEAST_OUTCOMES {
                     return Err(format!(
                         "refusal {ground} came only {count} times in {name}"
+                    ));
+                }
+            }
+        }
+        Ok(())
+    }
+
+    /// Tells which count of the checks of revisions is too small, if one is.
+    fn revision_shortfall(&self) -> Result<(), String> {
+        for (taken, name) in REVISIONS.iter().enumerate() {
+            let Promises { places, nearest } = self.promises[taken];
+            if places < LEAST_PLACES || nearest < 90.0 {
+                return Err(format!(
+                    "only {places} checks of revisions {name}, and a charge of {nearest} % of its ceiling"
+                ));
+            }
+            for (number, fields) in self.fields[taken].iter().enumerate() {
+                if fields.near < LEAST_NEAR {
+                    return Err(format!(
+                        "only {} revisions {name} with {number} changed fields came near their ceiling",
+                        fields.near
                     ));
                 }
             }

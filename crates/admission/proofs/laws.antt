@@ -1,5 +1,6 @@
-pub mod chunks
 pub mod grounds
+pub mod Chunks
+pub mod Surveyed
 pub mod Outcomes
-pub mod Admissions
-pub mod Lengths
+pub mod Asked
+pub mod Takes

@@ -1,1 +1,2 @@
+pub mod QuoteAndTake
 pub mod Saving

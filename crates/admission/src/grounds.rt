@@ -1,6 +1,6 @@
-// The grounds on which an admission is turned away before its first chunk.
+// The grounds on which a quote or a take is turned away before its first chunk.
 ghost use mathlib.Core.Path.{_≡_};
-ghost use Rattle.admission.specs.Admission.{jobAllowed, admissionGround};
+ghost use Rattle.admission.specs.Grounds.{jobAllowed, admissionGround};
 use crate::JOB_LIMIT;
 use refusal::Refusal;
 use store::Head;

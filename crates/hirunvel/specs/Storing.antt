@@ -4,10 +4,11 @@ use mathlib.Core.Bool.{cond}
 use mathlib.Core.List.{List, [], _∷_}
 use lib.IntN.{ℤ}
 use Rattle.refusal.specs.Number.{numberOf, accepted}
-use Rattle.admission.specs.declared.Admitted.{Admitted}
+use Rattle.admission.specs.declared.Taken.{Taken}
 use Rattle.directory.specs.Entry.{offsetAt, lengthAt}
 use Rattle.store.specs.Opening.{opened}
-use Rattle.admission.specs.Admission.{admitted}
+use Rattle.admission.specs.Quote.{quoted}
+use Rattle.admission.specs.Take.{taken}
 use Rattle.store.specs.Grounds.{lookGround}
 use Rattle.numbers.specs.Storing.{headOf, headNumbers, countsOf}
 
@@ -20,8 +21,26 @@ pub record StoreOpening : Type 0 where
 unfoldable pub storeOpened : ℕ → StoreOpening
 storeOpened w = record { refusal = numberOf (opened w .refusal); head = headNumbers (opened w .head) }
 
--- what an admission answers, and how it leaves the memory that it was lent
-pub record StoreAdmission : Type 0 where
+-- what a quote answers, and how it leaves the recipe
+pub record StoreQuotation : Type 0 where
+  pub refusal : ℕ
+  pub recipe : List ℕ
+  pub counts : List ℕ
+  pub saving : List ℤ
+
+-- "a quote reads store and job and gives the recipe length and the three counts while writing only the recipe"
+unfoldable pub storeQuoted : List ℕ → List ℕ → List ℕ → List ℕ → List ℕ → StoreQuotation
+storeQuoted n pool directory recipe job =
+    let q = quoted (headOf n) pool directory recipe job in
+    record {
+      refusal = numberOf (q .answer .refusal);
+      recipe = q .recipe;
+      counts = countsOf (q .answer);
+      saving = q .answer .saving ∷ [];
+    }
+
+-- what a take answers, and how it leaves the memory that it was lent
+pub record StoreTaking : Type 0 where
   pub refusal : ℕ
   pub head : List ℕ
   pub pool : List ℕ
@@ -31,22 +50,21 @@ pub record StoreAdmission : Type 0 where
   pub saving : List ℤ
 
 -- "A refused admission hands the head back unchanged"
-abbrev pub headAfter : List ℕ → Admitted → List ℕ
-headAfter n a = cond (accepted (a .refusal)) (headNumbers (a .head)) n
+abbrev pub headAfter : List ℕ → Taken → List ℕ
+headAfter n t = cond (accepted (t .quoted .refusal)) (headNumbers (t .head)) n
 
--- "The result has the new head, recipe length, new bytes, repeated bytes, and the saving", ".. and all counts as 0" where
--- the admission is refused
-unfoldable pub storeAdmitted : List ℕ → List ℕ → List ℕ → List ℕ → List ℕ → StoreAdmission
-storeAdmitted n pool directory recipe job =
-    let a = admitted (headOf n) pool directory recipe job in
+-- "a take stores the job", "give equal lengths and counts, 0 if refused"
+unfoldable pub storeTaken : List ℕ → List ℕ → List ℕ → List ℕ → List ℕ → StoreTaking
+storeTaken n pool directory recipe job =
+    let t = taken (headOf n) pool directory recipe job in
     record {
-      refusal = numberOf (a .answer .refusal);
-      head = headAfter n (a .answer);
-      pool = a .pool;
-      directory = a .directory;
-      recipe = a .recipe;
-      counts = countsOf (a .answer);
-      saving = a .answer .saving ∷ [];
+      refusal = numberOf (t .answer .quoted .refusal);
+      head = headAfter n (t .answer);
+      pool = t .pool;
+      directory = t .directory;
+      recipe = t .recipe;
+      counts = countsOf (t .answer .quoted);
+      saving = t .answer .quoted .saving ∷ [];
     }
 
 -- what a look answers and writes

@@ -1,6 +1,6 @@
 // The store over numbers.
 ghost use mathlib.Core.Path.{_≡_};
-ghost use Rattle.hirunvel.specs.Storing.{storeOpened, storeAdmitted, storeLooked};
+ghost use Rattle.hirunvel.specs.Storing.{storeOpened, storeQuoted, storeTaken, storeLooked};
 use store::ChunkNumber;
 
 // Opens a store. Refused by ground 1, with all zeros.
@@ -14,10 +14,37 @@ pub extern "C" fn hirunvel_store_open(window: u32, head: &mut [u32; 3]) -> u32
     numbers::of_refusal(refusal)
 }
 
-// Admits a job; tells the recipe's length, the new and the repeated bytes, and the saving. Refused
-// by grounds 1 and 3 to 8, with the head untouched and zeros told.
+// Quotes a job: tells the recipe's length, the new and the repeated bytes, and the saving, and writes only the recipe.
+// Refused by grounds 1 and 3 to 8, with zeros told.
 #[no_mangle]
-pub extern "C" fn hirunvel_store_admit(
+pub extern "C" fn hirunvel_store_quote(
+    head: &[u32; 3],
+    pool: &[u8],
+    directory: &[u32],
+    recipe: &mut [u32],
+    job: &[u8],
+    counts: &mut [u64; 3],
+    saving: &mut [i64; 1],
+) -> u32
+    ensures { λ r. ⌜ record {
+      refusal = r;
+      recipe = now (recipe .exit);
+      counts = now (counts .exit);
+      saving = now (saving .exit);
+    }
+        ≡ storeQuoted (now (head .entry)) (now (pool .entry)) (now (directory .entry)) (now (recipe .entry)) (now (job .entry)) ⌝ }
+{
+    let answer = admission::quote(numbers::head_of(*head), pool, directory, recipe, job);
+    let refusal = answer.refusal;
+    *counts = numbers::of_counts(answer);
+    *saving = [answer.saving];
+    numbers::of_refusal(refusal)
+}
+
+// Takes a job: tells what its quote tells, and stores its new chunks. Refused by grounds 1 and 3 to 8, with head, pool and
+// directory untouched and zeros told.
+#[no_mangle]
+pub extern "C" fn hirunvel_store_take(
     head: &mut [u32; 3],
     pool: &mut [u8],
     directory: &mut [u32],
@@ -35,12 +62,13 @@ pub extern "C" fn hirunvel_store_admit(
       counts = now (counts .exit);
       saving = now (saving .exit);
     }
-        ≡ storeAdmitted (now (head .entry)) (now (pool .entry)) (now (directory .entry)) (now (recipe .entry)) (now (job .entry)) ⌝ }
+        ≡ storeTaken (now (head .entry)) (now (pool .entry)) (now (directory .entry)) (now (recipe .entry)) (now (job .entry)) ⌝ }
 {
-    let answer = admission::admit(numbers::head_of(*head), pool, directory, recipe, job);
-    let refusal = answer.refusal;
-    *counts = numbers::of_counts(answer);
-    *saving = [answer.saving];
+    let answer = admission::take(numbers::head_of(*head), pool, directory, recipe, job);
+    let quoted = answer.quoted;
+    let refusal = quoted.refusal;
+    *counts = numbers::of_counts(quoted);
+    *saving = [quoted.saving];
     if refusal::accepted(refusal) {
         *head = numbers::of_head(answer.head);
     }

@@ -1,2 +1,3 @@
 pub mod chunks
+pub mod Quoted
 pub mod Listed

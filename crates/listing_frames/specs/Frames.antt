@@ -11,7 +11,7 @@ use Rattle.chunker.specs.Chunks.{chunks}
 use Rattle.directory.specs.Entry.{stride}
 use Rattle.store.specs.Opening.{fresh}
 use Rattle.store.specs.Contents.{has}
-use Rattle.admission.specs.Admission.{Admission, admitted, recipeOf}
+use Rattle.admission.specs.Quote.{Quotation, quoted, recipeOf}
 use Rattle.frame_text.specs.Frame.{frame, lastFrame}
 use Rattle.listing_frames.specs.declared.Listed.{Listed}
 
@@ -45,13 +45,13 @@ chunkFrames earlier position (c ∷ cs) (n ∷ ns) =
 abbrev pub refusedFrame : Refusal → List ℕ
 refusedFrame refusal = lastFrame 0 0 refusal
 
--- "It admits standard input to a fresh store"
-abbrev pub outcome : List ℕ → Admission
+-- "It admits standard input to a fresh store": what its quote answers and leaves, and its take does too
+abbrev pub outcome : List ℕ → Quotation
 outcome job =
-    admitted (fresh window) (replicate poolBytes 0) (replicate directoryNumbers 0) (replicate recipePlaces 0) job
+    quoted (fresh window) (replicate poolBytes 0) (replicate directoryNumbers 0) (replicate recipePlaces 0) job
 
 -- the frames of a job that was admitted
-abbrev pub admittedFrames : List ℕ → Admission → List ℕ
+abbrev pub admittedFrames : List ℕ → Quotation → List ℕ
 admittedFrames job a =
     cond (accepted (a .answer .refusal))
     (chunkFrames [] 0 (chunks window job) (recipeOf a) ++ lastFrame (a .answer .«new_bytes») (length job) Accepted)

@@ -37,8 +37,8 @@ fn refused(output: &mut [u8; OUTPUT_BYTES], refusal: Refusal) -> Listed
     Listed { refusal, written }
 }
 
-// Writes the frames of a job that is admitted to a fresh store. Refused by ground 3 over `LONGEST_JOB`,
-// and else as its admission is.
+// Writes the frames of a job that a fresh store quotes, and takes where the quote is accepted. Refused by ground 3
+// over `LONGEST_JOB`, and else as its quote is.
 pub fn frames(job: &[u8], output: &mut [u8; OUTPUT_BYTES]) -> Listed
     ensures { λ r. ⌜ record { answer = r; output = now (output .exit) } ≡ listed (now (job .entry)) (now (output .entry)) ⌝ }
 {
@@ -50,16 +50,17 @@ pub fn frames(job: &[u8], output: &mut [u8; OUTPUT_BYTES]) -> Listed
     let mut recipe = [0u32; RECIPE_PLACES];
     let opened = store::open(WINDOW);
     let head = opened.head;
-    let admitted = admission::admit(head, &mut pool, &mut directory, &mut recipe, job);
-    let refusal = admitted.refusal;
+    let quoted = admission::quote(head, &pool, &directory, &mut recipe, job);
+    let refusal = quoted.refusal;
     if !refusal::accepted(refusal) {
         return refused(output, refusal);
     }
+    let taken = admission::take(head, &mut pool, &mut directory, &mut recipe, job);
     let end = chunks::frames(job, &recipe, output);
     let written = frame_text::last_frame(
         output,
         end,
-        admitted.new_bytes,
+        taken.quoted.new_bytes,
         job.len() as u32,
         refusal,
     );

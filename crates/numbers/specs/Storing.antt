@@ -1,9 +1,9 @@
--- A head and the counts of an admission, as numbers.
+-- A head and the counts of a quote, as numbers.
 use Prim.Native.Nat.{ℕ}
 use mathlib.Core.List.{List, [], _∷_}
 use lib.ListN.{getD}
 use Rattle.store.specs.declared.Head.{Head}
-use Rattle.admission.specs.declared.Admitted.{Admitted}
+use Rattle.admission.specs.declared.Quoted.{Quoted}
 
 -- "a head of three numbers (window, pieces, filled)"
 abbrev pub headOf : List ℕ → Head
@@ -15,5 +15,5 @@ abbrev pub headNumbers : Head → List ℕ
 headNumbers h = h .window ∷ h .chunks .0 ∷ h .filled .0 ∷ []
 
 -- "recipe length, new bytes, repeated bytes"
-abbrev pub countsOf : Admitted → List ℕ
-countsOf a = a .«recipe_length» ∷ a .«new_bytes» ∷ a .«repeated_bytes» ∷ []
+abbrev pub countsOf : Quoted → List ℕ
+countsOf q = q .«recipe_length» ∷ q .«new_bytes» ∷ q .«repeated_bytes» ∷ []

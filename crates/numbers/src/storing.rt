@@ -1,7 +1,7 @@
-// A head and the counts of an admission as numbers.
+// A head and the counts of a quote as numbers.
 ghost use mathlib.Core.Path.{_≡_};
 ghost use Rattle.numbers.specs.Storing.{headOf, headNumbers, countsOf};
-use admission::Admitted;
+use admission::Quoted;
 use store::ChunkNumber;
 use store::Head;
 use store::PoolOffset;
@@ -9,7 +9,7 @@ use store::PoolOffset;
 // A head's window, chunks and filled.
 pub type HeadNumbers = [u32; 3];
 
-// An admission's recipe length, new bytes and repeated bytes.
+// A quote's recipe length, new bytes and repeated bytes.
 pub type Counts = [u64; 3];
 
 // The head of three numbers.
@@ -32,8 +32,8 @@ pub fn of_head(head: Head) -> HeadNumbers
     [head.window, chunks.0, filled.0]
 }
 
-// The counts of an admission.
-pub fn of_counts(answer: Admitted) -> Counts
+// The counts of a quote.
+pub fn of_counts(answer: Quoted) -> Counts
     ensures { λ r. ⌜ r ≡ countsOf answer ⌝ }
 {
     [

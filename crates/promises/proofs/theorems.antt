@@ -1,4 +1,5 @@
 pub mod FirstAppearances
+pub mod Quotes
 pub mod Saving
 pub mod NumbersStay
 pub mod GivesBack

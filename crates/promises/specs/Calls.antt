@@ -7,11 +7,12 @@ use mathlib.Core.List.{List, [], _∷_, _++_}
 use lib.Dec.{eqb}
 use lib.ListN.{length, take, drop, getD}
 use Rattle.chunker.specs.Chunks.{chunks}
-use Rattle.promises.specs.History.{Event, admission, reading, eventAt}
+use Rattle.promises.specs.History as history
+use Rattle.promises.specs.History.{Event, quote, reading, eventAt}
 use Rattle.promises.specs.FirstAppearances.{FirstAppearances}
 use Rattle.promises.specs.Saving.{jobSaving}
 use Rattle.promises.specs.Promise.{Promised}
-use Rattle.hirunvel.specs.Storing.{StoreAdmission, storeOpened, storeAdmitted}
+use Rattle.hirunvel.specs.Storing.{StoreQuotation, StoreTaking, storeOpened, storeQuoted, storeTaken}
 use Rattle.hirunvel.specs.Rebuilding.{JobRebuilding, jobRebuilt}
 
 -- what a C program keeps of a store
@@ -24,20 +25,30 @@ pub record Memory : Type 0 where
 abbrev pub opened : ℕ → List ℕ → List ℕ → Memory
 opened w pool directory = record { head = storeOpened w .head; pool = pool; directory = directory }
 
--- a call of hirunvel_store_admit
-abbrev pub call : Memory → List ℕ → List ℕ → StoreAdmission
-call m job recipe = storeAdmitted (m .head) (m .pool) (m .directory) recipe job
+-- a call of hirunvel_store_quote
+abbrev pub quoteCall : Memory → List ℕ → List ℕ → StoreQuotation
+quoteCall m job recipe = storeQuoted (m .head) (m .pool) (m .directory) recipe job
 
--- what a call leaves; hirunvel_store_look and hirunvel_rebuild write none of it
+-- a call of hirunvel_store_take
+abbrev pub takeCall : Memory → List ℕ → List ℕ → StoreTaking
+takeCall m job recipe = storeTaken (m .head) (m .pool) (m .directory) recipe job
+
+-- what a take tells
+abbrev pub toldBy : StoreTaking → StoreQuotation
+toldBy t = record { refusal = t .refusal; recipe = t .recipe; counts = t .counts; saving = t .saving }
+
+-- what a call leaves; hirunvel_store_quote, hirunvel_store_look and hirunvel_rebuild write none of it
 unfoldable pub leaves : Memory → Event → Memory
-leaves m (admission job recipe) =
-    let c = call m job recipe in
-    record { head = c .head; pool = c .pool; directory = c .directory }
+leaves m (quote job recipe) = m
+leaves m (history.take job recipe) =
+    let t = takeCall m job recipe in
+    record { head = t .head; pool = t .pool; directory = t .directory }
 leaves m reading = m
 
--- the chunks of a job whose call returns 0
+-- the chunks of a job whose take returns 0
 abbrev pub chunksOf : ℕ → Memory → Event → List (List ℕ)
-chunksOf w m (admission job recipe) = cond (eqb (call m job recipe .refusal) 0) (chunks w job) []
+chunksOf w m (quote job recipe) = []
+chunksOf w m (history.take job recipe) = cond (eqb (takeCall m job recipe .refusal) 0) (chunks w job) []
 chunksOf w m reading = []
 
 module _ (m : Memory) (calls : List Event) where
@@ -46,38 +57,45 @@ module _ (m : Memory) (calls : List Event) where
   before zero = m
   before (suc j) = leaves (before j) (eventAt calls j)
 
-  -- the chunks of the jobs that earlier calls accepted
+  -- the chunks of the jobs that earlier calls took
   unfoldable pub chunksBefore : ℕ → ℕ → List (List ℕ)
   chunksBefore w zero = []
   chunksBefore w (suc j) = chunksBefore w j ++ chunksOf w (before j) (eventAt calls j)
 
-  -- what a call of hirunvel_store_admit tells
-  abbrev pub callAt : ℕ → List ℕ → List ℕ → StoreAdmission
-  callAt i job recipe = call (before i) job recipe
+-- a call takes a job, and what it tells
+pub data TakesCall (m : Memory) : Event → List ℕ → StoreQuotation → Type 0 where
+  takesCall : {job recipe : List ℕ} → TakesCall m (history.take job recipe) job (toldBy (takeCall m job recipe))
 
--- call i admits the job, with memory lent for its recipe, and returns 0
-pub record AcceptedCall (m : Memory) (calls : List Event) (i : ℕ) (job recipe : List ℕ) : Type 0 where
-  pub stands : eventAt calls i ≡ admission job recipe
-  pub accepted : callAt m calls i job recipe .refusal ≡ 0
+-- a call quotes a job or takes it, and what it tells
+pub data AsksCall (m : Memory) : Event → List ℕ → StoreQuotation → Type 0 where
+  quoteCalled : {job recipe : List ℕ} → AsksCall m (quote job recipe) job (quoteCall m job recipe)
+  takeCalled : {job recipe : List ℕ} → AsksCall m (history.take job recipe) job (toldBy (takeCall m job recipe))
+
+-- call i takes the job and returns 0
+pub record TakenCall (m : Memory) (calls : List Event) (i : ℕ) (job : List ℕ) (c : StoreQuotation) : Type 0 where
+  pub stands : TakesCall (before m calls i) (eventAt calls i) job c
+  pub accepted : c .refusal ≡ 0
+
+-- call j quotes or takes the job and returns 0
+pub record AskedCall (m : Memory) (calls : List Event) (j : ℕ) (job : List ℕ) (c : StoreQuotation) : Type 0 where
+  pub stands : AsksCall (before m calls j) (eventAt calls j) job c
+  pub accepted : c .refusal ≡ 0
 
 -- the recipe is the first counts[0] numbers that the call left
-abbrev pub recipeOf : StoreAdmission → List ℕ
+abbrev pub recipeOf : StoreQuotation → List ℕ
 recipeOf c = take (getD (c .counts) 0 0) (c .recipe)
 
 -- the charge is counts[1]
-abbrev pub chargeOf : StoreAdmission → ℕ
+abbrev pub chargeOf : StoreQuotation → ℕ
 chargeOf c = getD (c .counts) 1 0
 
 -- demand 2: "New bytes count exactly the first appearances; new plus repeated bytes are the accepted job's length"
-abbrev pub Counts : ℕ → Memory → List Event → ℕ → List ℕ → List ℕ → Type 0
-Counts w m calls i job recipe =
-    let c = callAt m calls i job recipe in
-    FirstAppearances w (chunksBefore m calls w i) job (chargeOf c) (getD (c .counts) 2 0)
+abbrev pub Counts : ℕ → Memory → List Event → ℕ → List ℕ → StoreQuotation → Type 0
+Counts w m calls j job c = FirstAppearances w (chunksBefore m calls w j) job (chargeOf c) (getD (c .counts) 2 0)
 
 -- "Saving becomes job length − new bytes − 72 × packets": saving[0]
-abbrev pub Saves : ℕ → Memory → List Event → ℕ → List ℕ → List ℕ → Type 0
-Saves w m calls i job recipe =
-    callAt m calls i job recipe .saving ≡ jobSaving w (chunksBefore m calls w i) job ∷ []
+abbrev pub Saves : ℕ → Memory → List Event → ℕ → List ℕ → StoreQuotation → Type 0
+Saves w m calls j job c = c .saving ≡ jobSaving w (chunksBefore m calls w j) job ∷ []
 
 -- demand 2: "the recipe of each accepted job, given a long enough output, gives back that job's bytes"
 pub record GivesBack (job output : List ℕ) (r : JobRebuilding) : Type 0 where
@@ -89,9 +107,7 @@ pub record GivesBack (job output : List ℕ) (r : JobRebuilding) : Type 0 where
 abbrev pub rebuild : Memory → List ℕ → List ℕ → JobRebuilding
 rebuild m recipe output = jobRebuilt (m .head) (m .pool) (m .directory) recipe output
 
--- demand 3, of the accepted calls i and j, where memory was lent for the recipes
-abbrev pub PromisedCalls : ℕ → Memory → List Event → ℕ → ℕ → List ℕ → List ℕ → List ℕ → List ℕ → List ℕ → List ℕ → ℕ → Type 0
-PromisedCalls w m calls i j beginning replaced changed ending oldLent newLent k =
-    let old = callAt m calls i (beginning ++ (replaced ++ ending)) oldLent in
-    let new = callAt m calls j (beginning ++ (changed ++ ending)) newLent in
+-- demand 3, of a call that takes the old job and a later one that quotes or takes the revision
+abbrev pub PromisedCalls : ℕ → List ℕ → List ℕ → List ℕ → List ℕ → ℕ → StoreQuotation → StoreQuotation → Type 0
+PromisedCalls w beginning replaced changed ending k old new =
     Promised w beginning replaced changed ending k (chargeOf new) (recipeOf old) (recipeOf new)

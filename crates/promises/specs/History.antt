@@ -2,7 +2,7 @@
 -- refused or not, with pool and directory as that one left them".
 use Prim.Native.Nat.{ℕ, zero, suc}
 use mathlib.Core.Path.{_≡_}
-use mathlib.Core.Bool.{Bool, true, cond}
+use mathlib.Core.Bool.{Bool, true, false, cond}
 use mathlib.Core.List.{List, [], _∷_, _++_}
 use lib.ListN.{getD}
 use Rattle.refusal.specs.Number.{accepted}
@@ -11,11 +11,14 @@ use Rattle.chunker.specs.Chunks.{chunks}
 use Rattle.store.specs.declared.Head.{Head}
 use Rattle.store.specs.Memory.{contents}
 use Rattle.store.specs.Opening.{fresh}
-use Rattle.admission.specs.Admission.{Admission, admitted}
+use Rattle.admission.specs.Quote.{Quotation, quoted}
+use Rattle.admission.specs.Take.{Taking, quotationOf, taken}
 
 pub data Event : Type 0 where
-  -- a job is admitted, and lent memory for its recipe
-  admission : (job recipe : List ℕ) → Event
+  -- a job is quoted, and lent memory for its recipe
+  quote : (job recipe : List ℕ) → Event
+  -- a job is taken, and lent memory for its recipe
+  take : (job recipe : List ℕ) → Event
   -- a look or a rebuilding, which writes neither head nor pool nor directory
   reading : Event
 
@@ -32,25 +35,32 @@ start w pool directory = record { head = fresh w; pool = pool; directory = direc
 abbrev pub holds : State → List (List ℕ)
 holds s = contents (s .pool) (s .directory) (s .head .chunks .0)
 
--- the outcome of an admission in a state
-abbrev pub outcome : State → List ℕ → List ℕ → Admission
-outcome s job recipe = admitted (s .head) (s .pool) (s .directory) recipe job
+-- a quote in a state: what it answers, and how it leaves the recipe
+abbrev pub quoteIn : State → List ℕ → List ℕ → Quotation
+quoteIn s job recipe = quoted (s .head) (s .pool) (s .directory) recipe job
 
--- the state that an event leaves
+-- a take in a state
+abbrev pub takeIn : State → List ℕ → List ℕ → Taking
+takeIn s job recipe = taken (s .head) (s .pool) (s .directory) recipe job
+
+-- the state that an event leaves; a quote writes only the recipe
 unfoldable pub leaves : State → Event → State
-leaves s (admission job recipe) =
-    let o = outcome s job recipe in
-    record { head = o .answer .head; pool = o .pool; directory = o .directory }
+leaves s (quote job recipe) = s
+leaves s (take job recipe) =
+    let t = takeIn s job recipe in
+    record { head = t .answer .head; pool = t .pool; directory = t .directory }
 leaves s reading = s
 
--- "A job is accepted if its admission reports no refusal"
+-- "Only a take that reports no refusal makes a job accepted; a quote alone never does"
 abbrev pub accepts : State → Event → Bool
-accepts s (admission job recipe) = accepted (outcome s job recipe .answer .refusal)
-accepts s reading = true
+accepts s (quote job recipe) = false
+accepts s (take job recipe) = accepted (takeIn s job recipe .answer .quoted .refusal)
+accepts s reading = false
 
 -- the chunks of an event's job
 abbrev pub chunksOf : ℕ → Event → List (List ℕ)
-chunksOf w (admission job recipe) = chunks w job
+chunksOf w (quote job recipe) = chunks w job
+chunksOf w (take job recipe) = chunks w job
 chunksOf w reading = []
 
 -- the event at a place of a list, counted from 0; past the end nothing is written
@@ -69,18 +79,29 @@ module _ (s : State) (events : List Event) where
   chunksBefore (suc j) =
       chunksBefore j ++ cond (accepts (before j) (eventAt events j)) (chunksOf (s .head .window) (eventAt events j)) []
 
-  -- the outcome of an admission at a place
-  abbrev pub outcomeAt : ℕ → List ℕ → List ℕ → Admission
-  outcomeAt i job recipe = outcome (before i) job recipe
+-- an event takes a job: what it answers, and how it leaves the recipe
+pub data Takes (s : State) : Event → List ℕ → Quotation → Type 0 where
+  takes : {job recipe : List ℕ} → Takes s (take job recipe) job (quotationOf (takeIn s job recipe))
 
--- at place i of the list the job is admitted, with memory lent for its recipe, and accepted
-pub record AcceptedAt (s : State) (events : List Event) (i : ℕ) (job recipe : List ℕ) : Type 0 where
-  pub stands : eventAt events i ≡ admission job recipe
-  pub accepted : accepts (before s events i) (admission job recipe) ≡ true
+-- an event asks for a job: it quotes it or takes it
+pub data Asks (s : State) : Event → List ℕ → Quotation → Type 0 where
+  byQuote : {job recipe : List ℕ} → Asks s (quote job recipe) job (quoteIn s job recipe)
+  byTake : {job recipe : List ℕ} → Asks s (take job recipe) job (quotationOf (takeIn s job recipe))
+
+-- at place i of the list the job is taken, and not refused
+pub record TakenAt (s : State) (events : List Event) (i : ℕ) (job : List ℕ) (q : Quotation) : Type 0 where
+  pub stands : Takes (before s events i) (eventAt events i) job q
+  pub accepted : accepted (q .answer .refusal) ≡ true
+
+-- at place j the job is quoted or taken, and not refused
+pub record AskedAt (s : State) (events : List Event) (j : ℕ) (job : List ℕ) (q : Quotation) : Type 0 where
+  pub stands : Asks (before s events j) (eventAt events j) job q
+  pub accepted : accepted (q .answer .refusal) ≡ true
 
 -- "A job is a byte stream": the job of an event is
 abbrev pub BytesIn : Event → Type 0
-BytesIn (admission job recipe) = Bytes job
+BytesIn (quote job recipe) = Bytes job
+BytesIn (take job recipe) = Bytes job
 BytesIn reading = Unit {0}
 
 -- the job of every event is

@@ -5,8 +5,7 @@ use mathlib.Core.List.{List, [], _∷_, _++_}
 use lib.ListN.{length}
 use Rattle.chunker.specs.Chunks.{chunks, startingAfter}
 use Rattle.chunker.specs.KeptMaximum.{LinedUp}
-use Rattle.promises.specs.History.{Event, State, outcomeAt}
-use Rattle.admission.specs.Admission.{recipeOf}
+use Rattle.admission.specs.Quote.{Quotation, recipeOf}
 
 -- of a recipe, the numbers of the chunks that start after place n of the job; the job's chunks and their numbers are in
 -- step
@@ -34,9 +33,7 @@ pub record Promised (w : ℕ) (beginning replaced changed ending : List ℕ) (k 
       (numbersAfter (length (beginning ++ replaced) + (k + w)) (chunks w (beginning ++ (replaced ++ ending))) oldRecipe)
       ≡ length (startingAfter (length (beginning ++ replaced) + (k + w)) (chunks w (beginning ++ (replaced ++ ending))))
 
--- of the accepted places i and j of a list of events, where memory was lent for the recipes
-abbrev pub PromisedAt : ℕ → State → List Event → ℕ → ℕ → List ℕ → List ℕ → List ℕ → List ℕ → List ℕ → List ℕ → ℕ → Type 0
-PromisedAt w s events i j beginning replaced changed ending oldLent newLent k =
-    let old = outcomeAt s events i (beginning ++ (replaced ++ ending)) oldLent in
-    let new = outcomeAt s events j (beginning ++ (changed ++ ending)) newLent in
+-- of a revision that is quoted or taken, and an old job that was taken
+abbrev pub PromisedOf : ℕ → List ℕ → List ℕ → List ℕ → List ℕ → ℕ → Quotation → Quotation → Type 0
+PromisedOf w beginning replaced changed ending k old new =
     Promised w beginning replaced changed ending k (new .answer .«new_bytes») (recipeOf old) (recipeOf new)

@@ -1,10 +1,11 @@
 -- The store as a list of chunks: the number that a chunk has or gets, and what a job's chunks add.
-use Prim.Native.Nat.{ℕ, suc, _+_, _<_}
+use Prim.Native.Nat.{ℕ, suc, _<_}
 use mathlib.Core.Path.{_≡_}
 use mathlib.Core.Bool.{Bool, true, false, cond, _&&_, _||_}
 use mathlib.Core.List.{List, [], _∷_, _++_}
 use lib.Dec.{eqb}
 use lib.ListN.{length, getD}
+use Rattle.chunker.specs.Chunks.{total}
 
 -- "the same length and bytes"
 unfoldable pub same : List ℕ → List ℕ → Bool
@@ -49,9 +50,8 @@ numbers held [] = []
 numbers held (c ∷ cs) = number held c ∷ numbers (gain held c) cs
 
 -- the bytes that chunks add
-unfoldable pub gained : List (List ℕ) → List (List ℕ) → ℕ
-gained held [] = 0
-gained held (c ∷ cs) = cond (has held c) 0 (length c) + gained (gain held c) cs
+abbrev pub gained : List (List ℕ) → List (List ℕ) → ℕ
+gained held cs = total (added held cs)
 
 -- no two of the chunks are equal: each is found at its own place
 abbrev pub Distinct : List (List ℕ) → Type 0

@@ -4,3 +4,4 @@ pub mod Adding
 pub mod LeftAlone
 pub mod Ends
 pub mod Passing
+pub mod Marked

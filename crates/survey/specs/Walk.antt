@@ -9,8 +9,11 @@ use Rattle.refusal.specs.Number.{accepted}
 use Rattle.refusal.specs.Grounds.{unless, first}
 use Rattle.refusal.specs.declared.Refusal.{Refusal}
 use Rattle.refusal.specs.declared.Refusal.the-variants.{Accepted, RecipeFull, DirectoryFull, PoolFull}
-use Rattle.chunker.specs.Chunks.{total}
+use Rattle.chunker.specs.Chunks.{chunks, total}
+use Rattle.directory.specs.Entry.{entries}
+use Rattle.store.specs.declared.Head.{Head}
 use Rattle.store.specs.Contents.{has, gain}
+use Rattle.store.specs.Memory.{contents}
 
 -- what there is room for: the places of the recipe, the entries of the directory and the bytes of the pool
 pub record Room : Type 0 where
@@ -48,6 +51,16 @@ walk room used held (c ∷ cs) =
     cond (accepted (chunkGround room used held c))
     (record { refusal = on .refusal; passed = c ∷ on .passed })
     (record { refusal = chunkGround room used held c; passed = [] })
+
+-- the room in lent memory
+abbrev pub roomIn : List ℕ → List ℕ → List ℕ → Room
+roomIn pool directory recipe =
+    record { places = length recipe; entries = entries directory; bytes = length pool }
+
+-- the walk over a job's chunks
+abbrev pub jobWalk : Head → List ℕ → List ℕ → List ℕ → List ℕ → Walk
+jobWalk head pool directory recipe job =
+    walk (roomIn pool directory recipe) 0 (contents pool directory (head .chunks .0)) (chunks (head .window) job)
 
 -- "Each number goes into the recipe": at its first places, and those beyond stay unchanged
 abbrev pub noted : List ℕ → List ℕ → List ℕ

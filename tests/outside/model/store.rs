@@ -1,7 +1,8 @@
-//! The store: admission, looking and rebuilding.
+//! The store: quoting, taking, looking and rebuilding.
 
 use super::*;
 use crate::memory::Store;
+use std::collections::HashMap;
 
 /// Opens a store.
 pub fn open(window: u32, head: &mut [u32]) -> u32 {
@@ -14,44 +15,124 @@ pub fn open(window: u32, head: &mut [u32]) -> u32 {
     }
 }
 
-/// Admits a job. `counts` gets the recipe's length, the new bytes and the repeated bytes.
-pub fn admit(
+/// Quotes a job. `counts` gets the recipe's length, the new bytes and the repeated bytes.
+pub fn quote(
+    store: &Store,
+    recipe: &mut [u32],
+    job: &[u8],
+    counts: &mut [u64],
+    saving: &mut [i64],
+) -> u32 {
+    match answer(store, recipe, job, counts, saving) {
+        Ok(_) => ACCEPTED,
+        Err(refusal) => refusal,
+    }
+}
+
+/// Takes a job: the answer of a quote and, where nothing is refused, the new chunks in the store.
+pub fn take(
     store: &mut Store,
     recipe: &mut [u32],
     job: &[u8],
     counts: &mut [u64],
     saving: &mut [i64],
 ) -> u32 {
+    match answer(store, recipe, job, counts, saving) {
+        Ok(new) => {
+            new.iter().for_each(|chunk| add(store, chunk));
+            ACCEPTED
+        }
+        Err(refusal) => refusal,
+    }
+}
+
+/// Fills in the recipe, the counts and the saving. Gives the new chunks in order, or the refusal.
+fn answer<'a>(
+    store: &Store,
+    recipe: &mut [u32],
+    job: &'a [u8],
+    counts: &mut [u64],
+    saving: &mut [i64],
+) -> Result<Vec<&'a [u8]>, u32> {
     counts.fill(0);
     saving.fill(0);
-    let refusal = admission_ground(store, recipe, job);
+    let refusal = job_ground(store, recipe, job);
     if refusal != ACCEPTED {
-        return refusal;
+        return Err(refusal);
     }
-    let before = store.head.clone();
-    let chunks = chunks::chunks(store.head[0], job);
-    for (position, chunk) in chunks.iter().enumerate() {
-        if position == recipe.len() {
-            store.head = before;
-            return RECIPE_FULL;
-        }
-        recipe[position] = match search(store, chunk) {
-            Some(number) => number,
-            None => match add(store, chunk) {
-                Ok(number) => number,
-                Err(refusal) => {
-                    store.head = before;
-                    return refusal;
-                }
-            },
-        };
+    let walk = walk(store, recipe.len(), job);
+    recipe[..walk.numbers.len()].copy_from_slice(&walk.numbers);
+    if walk.refusal != ACCEPTED {
+        return Err(walk.refusal);
     }
-    let new_bytes = u64::from(store.head[2] - before[2]);
-    let job_length = job.len() as u64;
-    counts.copy_from_slice(&[chunks.len() as u64, new_bytes, job_length - new_bytes]);
-    let charged = new_bytes + PACKET_CHARGE * packets(&recipe[..chunks.len()]);
+    let (job_length, new_bytes) = (job.len() as u64, walk.new_bytes);
+    let places = walk.numbers.len() as u64;
+    counts.copy_from_slice(&[places, new_bytes, job_length - new_bytes]);
+    let charged = new_bytes + PACKET_CHARGE * packets(&walk.numbers);
     saving[0] = job_length as i64 - charged as i64;
-    ACCEPTED
+    Ok(walk.new)
+}
+
+/// What the chunks of a job come to, one after another: their numbers, the new ones in order with
+/// their bytes, and the refusal at which this ends.
+struct Walk<'a> {
+    numbers: Vec<u32>,
+    new: Vec<&'a [u8]>,
+    new_bytes: u64,
+    refusal: u32,
+}
+
+/// Goes over the chunks of a job, against those that the store holds and the new ones so far, with
+/// this many places in the recipe.
+fn walk<'a>(store: &Store, places: usize, job: &'a [u8]) -> Walk<'a> {
+    let stored = lowest_numbers(store);
+    let mut added: HashMap<&[u8], u32> = HashMap::new();
+    let mut walk = Walk {
+        numbers: Vec::new(),
+        new: Vec::new(),
+        new_bytes: 0,
+        refusal: ACCEPTED,
+    };
+    for chunk in chunks::chunks(store.head[0], job) {
+        if walk.numbers.len() == places {
+            walk.refusal = RECIPE_FULL;
+            break;
+        }
+        if let Some(&number) = stored.get(chunk).or(added.get(chunk)) {
+            walk.numbers.push(number);
+            continue;
+        }
+        walk.refusal = room_ground(store, &walk, chunk);
+        if walk.refusal != ACCEPTED {
+            break;
+        }
+        let next = store.chunks() + walk.new.len() as u32;
+        added.insert(chunk, next);
+        walk.numbers.push(next);
+        walk.new.push(chunk);
+        walk.new_bytes += chunk.len() as u64;
+    }
+    walk
+}
+
+/// The chunks that a store holds, each with its lowest number.
+fn lowest_numbers(store: &Store) -> HashMap<&[u8], u32> {
+    (0..store.chunks())
+        .rev()
+        .map(|number| (store.chunk(number as usize), number))
+        .collect()
+}
+
+/// The ground on which a new chunk is refused after those before it.
+fn room_ground(store: &Store, before: &Walk, chunk: &[u8]) -> u32 {
+    let free = store.pool.len() as u64 - u64::from(store.head[2]);
+    if store.chunks() as usize + before.new.len() == store.directory.len() / 2 {
+        DIRECTORY_FULL
+    } else if before.new_bytes + chunk.len() as u64 > free {
+        POOL_FULL
+    } else {
+        ACCEPTED
+    }
 }
 
 /// The packets in which the numbers of a recipe travel.
@@ -59,27 +140,14 @@ fn packets(recipe: &[u32]) -> u64 {
     recipe.chunks(PACKET_BYTES / NUMBER_BYTES).count() as u64
 }
 
-/// The lowest number of a chunk with these bytes.
-fn search(store: &Store, chunk: &[u8]) -> Option<u32> {
-    (0..store.chunks()).find(|&number| store.chunk(number as usize) == chunk)
-}
-
-/// Adds a chunk with the next number, or tells why there is no room for it.
-fn add(store: &mut Store, chunk: &[u8]) -> Result<u32, u32> {
-    let number = store.chunks() as usize;
-    let filled = store.head[2] as usize;
-    if number == store.directory.len() / 2 {
-        return Err(DIRECTORY_FULL);
-    }
-    if chunk.len() > store.pool.len() - filled {
-        return Err(POOL_FULL);
-    }
+/// Adds a chunk with the next number. There must be room for it.
+fn add(store: &mut Store, chunk: &[u8]) {
+    let (number, filled) = (store.chunks() as usize, store.head[2] as usize);
     store.pool[filled..filled + chunk.len()].copy_from_slice(chunk);
     store.directory[2 * number] = filled as u32;
     store.directory[2 * number + 1] = chunk.len() as u32;
     store.head[1] += 1;
     store.head[2] += chunk.len() as u32;
-    Ok(number as u32)
 }
 
 /// Finds a chunk's stretch of the pool.
@@ -115,8 +183,8 @@ pub fn rebuild(store: &Store, recipe: &[u32], output: &mut [u8], written: &mut [
     ACCEPTED
 }
 
-/// The ground, among those tested before the first chunk, on which an admission is refused.
-fn admission_ground(store: &Store, recipe: &[u32], job: &[u8]) -> u32 {
+/// The ground, among those tested before the first chunk, on which a quote or a take is refused.
+fn job_ground(store: &Store, recipe: &[u32], job: &[u8]) -> u32 {
     if !window_accepted(store.head[0]) {
         WINDOW
     } else if job.is_empty() || job.len() > JOB_LIMIT {

@@ -1,34 +1,142 @@
--- What an admission comes to by the grounds that it tests before its first chunk.
-use Prim.Native.Nat.{ℕ}
-use mathlib.Core.Path.{_≡_}
-use mathlib.Core.Bool.{true, false}
-use mathlib.Core.List.{List}
-use lib.ListN.{length}
+-- What a quote and a take come to, by the tests in the order in which the code makes them.
+use Prim.Native.Nat.{ℕ, _+_, _^_, _≤_, _<_}
+use mathlib.Core.Path.{_≡_, refl, sym, ap, ap₂, _∙_}
+use mathlib.Core.Bool.{true, false, cond}
+use mathlib.Core.List.{List, [], _++_}
+use lib.ListN.{length, take, drop}
 use Rattle.refusal.specs.Number.{accepted}
-use Rattle.chunker.specs.Chunks.{chunks}
+use Rattle.refusal.specs.declared.Refusal.{Refusal}
+use Rattle.refusal.specs.declared.Refusal.the-variants.{Accepted}
+use Rattle.refusal.proofs.laws.NoGround.{no-ground}
 use Rattle.store.specs.declared.Head.{Head}
-use Rattle.chunk_admission.specs.Snapshot.{Outcome, chunksOutcome}
-use Rattle.admission.specs.Admission.{admissionGround, begun, refused, concluded, admitted}
+use Rattle.store.specs.Contents.{added}
+use Rattle.store.specs.Memory.{contents}
+use Rattle.marks.specs.Marks.{newChunks, settled}
+use Rattle.marks.specs.internal.Places.{NamesEarlier}
+use Rattle.storing.specs.Storing.{poolWith, directoryWith}
+use Rattle.survey.specs.declared.Progress.{Progress}
+use Rattle.survey.specs.Walk.{Walk, jobWalk}
+use Rattle.survey.specs.internal.Snapshot.{Snapshot, Outcome, ends}
+use Rattle.survey.specs.internal.Surveyed.{progressAfter, surveyAfter}
+use Rattle.survey.specs.internal.Begun.{Begun}
+use Rattle.admission.specs.Grounds.{admissionGround}
+use Rattle.admission.specs.Quote.{Quotation, refused, walked, quoted}
+use Rattle.admission.specs.Take.{Taking, newOf, stores, taken}
+use Rattle.admission.specs.declared.Taken.{Taken}
+use Rattle.admission.specs.internal.Answers.{answered, headAfter}
+use Rattle.admission.proofs.laws.grounds.Passed.{Passed, all-passed}
+use Rattle.admission.proofs.laws.Surveyed as surveyed
+use Rattle.admission.proofs.laws.Surveyed.{begun, settled-recipe}
 
--- how the chunks of a job end where none of the grounds 1 and 3 to 5 holds
-abbrev pub run : Head → List ℕ → List ℕ → List ℕ → List ℕ → Outcome
-run head pool directory recipe job = chunksOutcome (begun head pool directory recipe) (chunks (head .window) job)
+-- the marks that a survey left may be settled
+abbrev pub Settleable : Head → Outcome → Type 0
+Settleable head o =
+    (o .snapshot .progress .«recipe_length» ≤ length (o .snapshot .recipe))
+    × ((head .chunks .0 + o .snapshot .progress .«recipe_length» < 2 ^ 32)
+    × NamesEarlier (o .snapshot .recipe) (o .snapshot .progress .«recipe_length»))
+
+-- the recipe with the marks that a survey left settled
+abbrev pub settledRecipe : Head → Snapshot → List ℕ
+settledRecipe head f =
+    settled (head .chunks .0) [] (take (f .progress .«recipe_length») (f .recipe)) ++ drop (f .progress .«recipe_length») (f .recipe)
+
+-- what a quote makes of a survey
+abbrev pub settledTo : Head → List ℕ → Outcome → Quotation
+settledTo head job o =
+    record {
+      answer = answered (length job) (o .refusal) (o .snapshot .progress);
+      recipe = settledRecipe head (o .snapshot);
+    }
+
+-- what a take makes of one that refused a chunk
+abbrev pub stoppedTo : Head → List ℕ → List ℕ → Outcome → Taking
+stoppedTo head pool directory o =
+    record {
+      answer = record { quoted = refused (o .refusal); head = head };
+      pool = pool;
+      directory = directory;
+      recipe = settledRecipe head (o .snapshot);
+    }
+
+-- and of one that refused none, by the chunks that are stored
+abbrev pub storedTo : Head → List ℕ → List ℕ → List ℕ → List (List ℕ) → Outcome → Taking
+storedTo head pool directory job new o =
+    record {
+      answer = record {
+        quoted = answered (length job) (o .refusal) (o .snapshot .progress);
+        head = headAfter head (o .snapshot .progress);
+      };
+      pool = poolWith head pool new;
+      directory = directoryWith head directory new;
+      recipe = settledRecipe head (o .snapshot);
+    }
+
+-- those that its marks say are new
+abbrev pub newIn : Head → List ℕ → Outcome → List (List ℕ)
+newIn head job o =
+    newChunks (head .window) job (take (o .snapshot .progress .«recipe_length») (o .snapshot .recipe))
 
 module _ (head : Head) (pool directory recipe job : List ℕ) where
-  -- where one holds, the admission is refused and writes nothing
-  pub admitted-refused : accepted (admissionGround head pool directory recipe job) ≡ false
-      → admitted head pool directory recipe job
-      ≡ record {
-        answer = refused (admissionGround head pool directory recipe job) head;
+  -- one of the grounds 1 and 3 to 5 holds
+  pub quote-refused : accepted (admissionGround head pool directory recipe job) ≡ false
+      → record { answer = refused (admissionGround head pool directory recipe job); recipe = recipe }
+      ≡ quoted head pool directory recipe job
+  unfolding quoted
+  quote-refused h = rw h
+
+  pub take-refused : accepted (admissionGround head pool directory recipe job) ≡ false
+      → record {
+        answer = record { quoted = refused (admissionGround head pool directory recipe job); head = head };
         pool = pool;
         directory = directory;
         recipe = recipe;
       }
-  unfolding admitted
-  admitted-refused h = rw h
+      ≡ taken head pool directory recipe job
+  unfolding taken
+  take-refused h = rw (← (quote-refused h), h)
 
-  -- where none holds, it ends as its chunks do
-  pub admitted-concluded : accepted (admissionGround head pool directory recipe job) ≡ true
-      → admitted head pool directory recipe job ≡ concluded head (length job) (run head pool directory recipe job)
-  unfolding admitted
-  admitted-concluded h = rw h
+  -- none of them holds, and the job is walked
+  module _ (h : accepted (admissionGround head pool directory recipe job) ≡ true) where
+    abbrev held : List (List ℕ)
+    held = contents pool directory (head .chunks .0)
+
+    abbrev whole : Walk
+    whole = jobWalk head pool directory recipe job
+
+    pub begins : Begun head pool directory recipe job
+    begins = begun (all-passed head pool directory recipe job h)
+
+    -- what the survey counts
+    abbrev progress : Progress
+    progress = progressAfter head held (whole .passed)
+
+    -- the recipe as the survey leaves it, with the marks settled
+    abbrev settles : List ℕ
+    settles = settledRecipe head (surveyAfter head pool directory recipe (whole .passed))
+
+    pub quote-walked : record { answer = answered (length job) (whole .refusal) progress; recipe = settles }
+        ≡ quoted head pool directory recipe job
+    unfolding quoted answered
+    quote-walked = rw (h, settled-recipe head pool directory recipe job begins)
+
+    -- the survey
+    abbrev pub survey : Outcome
+    survey = ends (whole .refusal) (surveyAfter head pool directory recipe (whole .passed))
+
+    -- a take whose walk refuses a chunk
+    pub take-stopped : accepted (whole .refusal) ≡ false → stoppedTo head pool directory survey ≡ taken head pool directory recipe job
+    unfolding taken answered
+    take-stopped stops = rw (← quote-walked, stops, stops)
+
+    -- and one whose walk refuses none
+    pub take-walked : accepted (whole .refusal) ≡ true
+        → storedTo head pool directory job (newIn head job survey) survey ≡ taken head pool directory recipe job
+    unfolding taken answered
+    take-walked walks =
+        let all = surveyed.all-passed head pool directory recipe job begins walks in
+        let new = surveyed.new-marked head pool directory recipe job begins walks in
+        let q : Quotation = record { answer = answered (length job) (whole .refusal) progress; recipe = settles } in
+        let last : stores head pool directory (newOf head pool directory job) q ≡ taken head pool directory recipe job =
+        rw (← quote-walked, walks) in
+        ap (λ cs. storedTo head pool directory job cs survey) new
+        ∙ (ap (λ cs. stores head pool directory cs q) (ap (added held) all) ∙ last)

@@ -1,62 +1,61 @@
--- The listing of a job, by how its admission ends, and the output in which it stands.
+-- The listing of a job, by how its quote ends, and the output in which it stands.
 use Prim.Native.Nat.{ℕ, _+_, _*_, _≤_, _<_}
 use native.Mathlib.Omega.{arith}
 use native.Mathlib.Nat.{zero-add}
 use mathlib.Core.Path.{_≡_, refl, ap, sym, _∙_}
 use mathlib.Core.Bool.{true}
-use mathlib.Core.List.{List, [], _++_, map}
-use lib.ListN.{length, drop, length-append, length-map, take-append-drop}
+use mathlib.Core.List.{List, [], _++_}
+use lib.ListN.{length, drop, length-append, take-append-drop}
 use lib.Seq.{sets, sets-eq}
 use borrow.Author.Tests.{le-leb, lt-leb}
 use Rattle.refusal.specs.Number.{numberOf, accepted}
 use Rattle.refusal.specs.declared.Refusal.{Refusal}
 use Rattle.refusal.specs.declared.Refusal.the-variants.{JobLength}
 use Rattle.refusal.proofs.laws.NoGround.{no-ground}
-use Rattle.chunker.specs.Bytes.{Bytes}
 use Rattle.chunker.specs.Scanner.{windowAllowed}
 use Rattle.chunker.specs.Chunks.{chunks}
 use Rattle.store.specs.declared.Opened.{Opened}
+use Rattle.store.specs.Contents.{numbers}
 use Rattle.store.specs.Memory.{chunksFrom}
-use Rattle.store.specs.Contents.{number, grown}
 use Rattle.store.specs.Opening.{fresh, opened}
-use Rattle.store.proofs.laws.grounds.Fitting.{fresh-fits}
-use Rattle.admission.specs.Admission.{Admission, admitted, recipeOf}
-use Rattle.admission.proofs.laws.Admissions.{adds}
+use Rattle.store.proofs.laws.contents.Additions.{length-numbers}
+use Rattle.admission.specs.Quote.{Quotation, quoted, recipeOf}
 use Rattle.frame_text.specs.Frame.{frameBytes, lastFrame}
 use Rattle.listing_frames.specs.Frames.{window, longestJob, chunkFrames, refusedFrame, outcome, admittedFrames, listing, refusalOf, written, listed}
 use Rattle.listing_frames.specs.internal.Counted.{countedFrames}
 use Rattle.frame_text.proofs.laws.Stores.{sets-then, frame-length}
+use Rattle.listing_frames.proofs.laws.Quoted.{all-numbers}
 use Rattle.listing_frames.proofs.laws.chunks.Walking.{counted-length}
 use Rattle.listing_frames.proofs.laws.chunks.NewChunks.{counted-first, counted-front}
 
 -- the frames that the code writes for an accepted job
-abbrev pub codedFrames : List ℕ → Admission → List ℕ
+abbrev pub codedFrames : List ℕ → Quotation → List ℕ
 codedFrames job a =
     countedFrames 0 0 (chunks window job) (a .recipe)
     ++ lastFrame (a .answer .«new_bytes») (length job) (a .answer .refusal)
 
 -- a job that a fresh store accepts
-pub record Accepts (job : List ℕ) (a : Admission) : Type 0 where
+pub record Accepts (job : List ℕ) (a : Quotation) : Type 0 where
   -- there is a number for each chunk
   pub enough : length (chunks window job) ≤ length (a .recipe)
   pub frames : admittedFrames job a ≡ codedFrames job a
 
-module _ (pool directory recipe job : List ℕ) (bytes : Bytes job) where
-  pub accepts : (a : Admission) → a ≡ admitted (fresh window) pool directory recipe job
+module _ (pool directory recipe job : List ℕ) where
+  -- it has a number for each chunk, and the frames that the code writes
+  pub accepts : (a : Quotation) → a ≡ quoted (fresh window) pool directory recipe job
       → accepted (a .answer .refusal) ≡ true → Accepts job a
   unfolding chunksFrom
   accepts a same done =
       let cs = chunks window job in
-      let numbers : recipeOf a ≡ map (number (grown [] cs)) cs =
-      rw same
-      (adds (fresh window) pool directory recipe job (fresh-fits window pool directory) bytes (rw same at done) .recipe) in
+      let told : recipeOf a ≡ numbers [] cs =
+      rw same (all-numbers (fresh window) pool directory recipe job (rw same at done)) in
       let n = a .answer .«recipe_length» in
       let parts = take-append-drop n (a .recipe) in
-      let many : length (recipeOf a) ≡ length cs = ap length numbers ∙ length-map cs _ in
+      let many : length (recipeOf a) ≡ length cs = ap length told ∙ length-numbers [] cs in
       let all : countedFrames 0 0 cs (a .recipe) ≡ countedFrames 0 0 cs (recipeOf a) =
       ap (countedFrames 0 0 cs) (sym parts) ∙ counted-front 0 0 cs (recipeOf a) (drop n (a .recipe)) (omega arith) in
       let first : countedFrames 0 0 cs (recipeOf a) ≡ chunkFrames [] 0 cs (recipeOf a) =
-      rw numbers (counted-first [] [] (λ c. refl) 0 cs) in
+      rw told (counted-first [] [] (λ c. refl) 0 cs) in
       record {
         enough = omega (arith, length-append (recipeOf a) (drop n (a .recipe)), ap length parts);
         frames = rw (done, all, first, no-ground (a .answer .refusal) done);
@@ -74,7 +73,7 @@ unfolding listed listing refusalOf
 long-listed job output h = rw (lt-leb _ _ h)
 
 -- a job that is short enough
-pub short-listed : (job output : List ℕ) → length job ≤ longestJob → (a : Admission) → a ≡ outcome job
+pub short-listed : (job output : List ℕ) → length job ≤ longestJob → (a : Quotation) → a ≡ outcome job
     → listed job output ≡ written (a .answer .refusal) (admittedFrames job a) output
 unfolding listed listing refusalOf
 short-listed job output h a e = rw (le-leb _ _ h, e)
@@ -97,7 +96,7 @@ one-stands refusal before after end room told stored =
     at-front refusal (refusedFrame refusal) before after end (omega arith) (omega arith) stored
 
 -- the frames of an accepted job
-pub all-stand : (before between after job : List ℕ) (a : Admission) (middle end : ℕ) → Accepts job a
+pub all-stand : (before between after job : List ℕ) (a : Quotation) (middle end : ℕ) → Accepts job a
     → frameBytes * length (chunks window job) + frameBytes ≤ length before
     → middle ≡ frameBytes * length (chunks window job)
     → between ≡ sets before 0 (countedFrames 0 0 (chunks window job) (a .recipe))

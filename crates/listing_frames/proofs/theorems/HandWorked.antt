@@ -9,10 +9,11 @@ use Rattle.scan.specs.Move.{move, next}
 use Rattle.chunker.specs.Chunks.{cutChunks, remaining, chunks}
 use Rattle.directory.specs.Layout.{laidOut}
 use Rattle.store.specs.Grounds.{fits, memoryAllowed, recipeAllowed}
-use Rattle.admission.specs.Admission.{jobAllowed, admissionGround, admitted}
+use Rattle.survey.specs.Walk.{chunkGround, walk}
+use Rattle.admission.specs.Grounds.{jobAllowed, admissionGround}
+use Rattle.admission.specs.Quote.{quoted}
 use Rattle.store.specs.Memory.{chunksFrom}
-use Rattle.store.specs.Contents.{same, number, has}
-use Rattle.chunk_admission.specs.Snapshot.{chunkGround, afterChunk, chunksOutcome}
+use Rattle.store.specs.Contents.{same, number, has, gain, added, numbers}
 use Rattle.frame_text.specs.Frame.{hex, frame}
 use Rattle.listing_frames.specs.Frames.{chunkFrames, refusedFrame, listing}
 
@@ -34,11 +35,11 @@ last = 70 ∷ 70 ∷ 70 ∷ 70 ∷ 48 ∷ 48 ∷ 48 ∷ 48 ∷ 48 ∷ 48 ∷ 48 
 
 -- "For twelve bytes 41 it prints exactly" these four lines
 pub twelve-bytes : listing (replicate 12 65) ≡ first ++ (second ++ (third ++ last))
-unfolding listing frame hex chunkFrames has admitted admissionGround windowAllowed jobAllowed memoryAllowed recipeAllowed fits laidOut
-    chunks cutChunks remaining next move chunksOutcome chunkGround afterChunk number same chunksFrom
+unfolding listing frame hex chunkFrames has quoted admissionGround windowAllowed jobAllowed memoryAllowed recipeAllowed fits laidOut
+    chunks cutChunks remaining next move walk chunkGround gain added numbers number same chunksFrom
 twelve-bytes = refl
 
 -- an empty job gives the last frame only, with refusal 3
 pub empty-job : listing [] ≡ refusedFrame JobLength
-unfolding listing admitted admissionGround windowAllowed jobAllowed
+unfolding listing quoted admissionGround windowAllowed jobAllowed
 empty-job = refl

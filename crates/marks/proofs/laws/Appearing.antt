@@ -72,7 +72,7 @@ module _ (w : ℕ) (job : List ℕ) (held : List (List ℕ)) (c : List ℕ) (som
       by-test false e on = ap suc (on e)
 
 -- a mark of a first appearance has the chunk's key and its position
-first-marked : {held before : List (List ℕ)} {c : List ℕ} {m : ℕ} → Marked held before c m → firstBase ≤ m
+pub first-marked : {held before : List (List ℕ)} {c : List ℕ} {m : ℕ} → Marked held before c m → firstBase ≤ m
     → (m / firstBase ≡ keyOf c) × (m % firstBase ≡ total before)
 first-marked (stored h e l) f = absurd (omega arith)
 first-marked (repeats h k e b l) f = absurd (omega arith)
@@ -88,7 +88,7 @@ repeat-marked (appears h k l e at) r f = absurd (omega arith)
 -- what the functions may assume of the places of a job's first chunks
 module _ (w : ℕ) (job : List ℕ) (held ds rest : List (List ℕ)) (p : Places w job held [] ds rest) (more : List ℕ) where
   -- the place q of the recipe
-  recipe-place : (q : ℕ) → q < length ds → Place w job held (total ds) (getD (marks held [] ds ++ more) q 0) q
+  pub recipe-place : (q : ℕ) → q < length ds → Place w job held (total ds) (getD (marks held [] ds ++ more) q 0) q
   recipe-place q l =
       let inside : q < length (marks held [] ds) = rw (length-marks held [] ds) l in
       rw (List·getD-append (marks held [] ds) more 0 q inside)

@@ -10,6 +10,7 @@ use Rattle.chunker.specs.Chunks.{chunks, total}
 use Rattle.store.specs.Limits.{recipeLimit, jobLimit}
 use Rattle.store.specs.Contents.{number, has}
 use Rattle.store.proofs.laws.contents.Numbering.{number-below}
+use Rattle.store.proofs.laws.contents.Additions.{total-append}
 use Rattle.marks.specs.Marks.{repeatBase, repeatMark, firstBase, keyOf, firstMark, mark, marks, chunkFrom}
 use Rattle.marks.specs.internal.Places.{HasKey, FirstsIn, NamesEarlier}
 use Rattle.marks.proofs.laws.Positions.{StartsAt, starts-at}
@@ -89,15 +90,12 @@ module _ {w : ℕ} {job : List ℕ} {held earlier : List (List ℕ)} {d : List �
       marked held earlier d (p .few) (omega (arith, p .short, length-append earlier (d ∷ ds)))
       (omega (arith, place-start .some, place-start .within, p .long))
 
--- the bytes of chunks that follow others
-pub total-append : (xs ys : List (List ℕ)) → total (xs ++ ys) ≡ total xs + total ys
-total-append [] ys = omega arith
-total-append (x ∷ xs) ys = omega (arith, total-append xs ys)
-
 -- the mark m at place q is that of a chunk which starts at position `top` or before
 pub record Place (w : ℕ) (job : List ℕ) (held : List (List ℕ)) (top m q : ℕ) : Type 0 where
   pub chunk : List ℕ
   pub before : List (List ℕ)
+  pub after : List (List ℕ)
+  pub split : chunks w job ≡ before ++ (chunk ∷ after)
   pub at : length before ≡ q
   pub within : total before ≤ top
   pub starts : StartsAt w job (total before) chunk
@@ -112,6 +110,8 @@ place-at w job held earlier (d ∷ ds) rest p zero l =
     record {
       chunk = d;
       before = earlier;
+      after = ds ++ rest;
+      split = p .whole;
       at = omega arith;
       within = omega (arith, total-append earlier (d ∷ ds));
       starts = place-start p;
@@ -122,6 +122,8 @@ place-at w job held earlier (d ∷ ds) rest p (suc q) l =
     record {
       chunk = on .chunk;
       before = on .before;
+      after = on .after;
+      split = on .split;
       at = omega (arith, on .at, length-append earlier (d ∷ []));
       within = rw (← (append-assoc earlier (d ∷ []) ds)) (on .within);
       starts = on .starts;

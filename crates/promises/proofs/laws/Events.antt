@@ -6,20 +6,22 @@ use mathlib.Core.Path.{_≡_, refl, ap, sym, _∙_, subst}
 use mathlib.Core.Bool.{Bool, true, false, cond}
 use mathlib.Core.List.{List, [], _∷_, _++_, map}
 use lib.ListN.{length}
+use Rattle.refusal.specs.Number.{accepted}
 use Rattle.chunker.specs.Bytes.{Bytes}
 use Rattle.chunker.specs.Scanner.{windowAllowed}
 use Rattle.chunker.specs.Chunks.{chunks}
-use Rattle.store.specs.Contents.{number, grown, gained}
-use Rattle.store.specs.Grounds.{fits}
-use Rattle.store.proofs.laws.grounds.Fitting.{fresh-fits}
+use Rattle.store.specs.Contents.{number, grown}
+use Rattle.store.specs.Grounds.{fits, memoryAllowed}
+use Rattle.store.specs.Limits.{recipeLimit}
 use Rattle.store.specs.Memory.{chunksFrom}
+use Rattle.store.proofs.laws.grounds.Fitting.{fresh-fits}
 use Rattle.store.proofs.laws.contents.Growth.{Among, grown-keeps, grown-has, grown-append, numbers-grown}
-use Rattle.tariff.specs.Tariff.{savingOf}
-use Rattle.admission.specs.Admission.{recipeOf}
-use Rattle.admission.proofs.laws.Admissions.{adds, keeps}
-use Rattle.admission.proofs.laws.Lengths.{as-long}
-use Rattle.promises.specs.History.{Event, admission, reading, State, start, holds, leaves, accepts, chunksOf, eventAt}
-use Rattle.promises.specs.History.{before, chunksBefore, outcomeAt, AcceptedAt, BytesIn, AllBytes}
+use Rattle.admission.specs.Quote.{Quotation, recipeOf}
+use Rattle.admission.proofs.laws.Asked.{Asked, passed, asked, chunks-few}
+use Rattle.admission.proofs.laws.Takes.{adds, untouched}
+use Rattle.admission.proofs.theorems.QuoteAndTake.{same-quotation}
+use Rattle.promises.specs.History.{Event, quote, take, reading, State, start, holds, quoteIn, leaves, accepts, chunksOf, eventAt}
+use Rattle.promises.specs.History.{before, chunksBefore, Takes, takes, Asks, byQuote, byTake, TakenAt, AskedAt, BytesIn, AllBytes}
 
 -- the head fits pool and directory
 abbrev pub Fitting : State → Type 0
@@ -53,39 +55,35 @@ grows-then s t u cs ds g h =
       directoryLength = h .directoryLength ∙ g .directoryLength;
     }
 
--- an admission adds the chunks of its job, or nothing
-grows-admission : (s : State) → Fitting s → (job recipe : List ℕ) → Bytes job
-    → Grows s (leaves s (admission job recipe)) (addedChunks s (admission job recipe))
+-- a take adds the chunks of its job, or nothing
+grows-take : (s : State) → Fitting s → (job recipe : List ℕ) → Bytes job
+    → Grows s (leaves s (take job recipe)) (addedChunks s (take job recipe))
 unfolding leaves grown
-grows-admission s f job recipe b = step (accepts s (admission job recipe)) refl
+grows-take s f job recipe b = step (accepts s (take job recipe)) refl
   where
-    step : (t : Bool) → accepts s (admission job recipe) ≡ t
-        → Grows s (leaves s (admission job recipe)) (cond t (chunks (s .head .window) job) [])
+    same : accepts s (take job recipe) ≡ accepted (quoteIn s job recipe .answer .refusal)
+    same = ap (λ q. accepted (q .answer .refusal)) (same-quotation (s .head) (s .pool) (s .directory) recipe job)
+
+    step : (t : Bool) → accepts s (take job recipe) ≡ t
+        → Grows s (leaves s (take job recipe)) (cond t (chunks (s .head .window) job) [])
     step true h =
-        let a = adds (s .head) (s .pool) (s .directory) recipe job f b h in
-        let l = as-long (s .head) (s .pool) (s .directory) recipe job f in
+        let a = adds (s .head) (s .pool) (s .directory) recipe job (sym same ∙ h) b in
         record {
           fitting = a .fitting;
           window = a .window;
           held = a .held;
-          poolLength = l .poolLength;
-          directoryLength = l .directoryLength;
+          poolLength = a .poolLength;
+          directoryLength = a .directoryLength;
         }
     step false h =
-        let k = keeps (s .head) (s .pool) (s .directory) recipe job f b h in
-        let l = as-long (s .head) (s .pool) (s .directory) recipe job f in
-        record {
-          fitting = rw (k .sameHead) (k .fitting);
-          window = ap (λ head. head .window) (k .sameHead);
-          held = rw (k .sameHead) (k .held);
-          poolLength = l .poolLength;
-          directoryLength = l .directoryLength;
-        }
+        let u = untouched (s .head) (s .pool) (s .directory) recipe job (sym same ∙ h) in
+        rw (u .sameHead, u .samePool, u .sameDirectory) (grows-none s f)
 
 -- what each event adds
 grows-once : (s : State) → Fitting s → (e : Event) → BytesIn e → Grows s (leaves s e) (addedChunks s e)
 unfolding leaves
-grows-once s f (admission job recipe) b = grows-admission s f job recipe b
+grows-once s f (quote job recipe) b = grows-none s f
+grows-once s f (take job recipe) b = grows-take s f job recipe b
 grows-once s f reading b = grows-none s f
 
 -- the job of the event at each place is bytes
@@ -94,9 +92,10 @@ bytes-in [] b j = tt
 bytes-in (e ∷ es) b zero = b .0
 bytes-in (e ∷ es) b (suc j) = bytes-in es (b .1) j
 
-pub bytes-at : (events : List Event) → AllBytes events → (j : ℕ) (job recipe : List ℕ)
-    → eventAt events j ≡ admission job recipe → Bytes job
-bytes-at events b j job recipe e = subst BytesIn e (bytes-in events b j)
+-- so is the job that is asked for
+pub asked-bytes : {s : State} {e : Event} {job : List ℕ} {q : Quotation} → Asks s e job q → BytesIn e → Bytes job
+asked-bytes byQuote b = b
+asked-bytes byTake b = b
 
 module _ (s : State) (f : Fitting s) (events : List Event) (b : AllBytes events) where
   -- at each place of a list of events, the store has grown by the chunks of the jobs accepted before
@@ -125,57 +124,81 @@ module _ (s : State) (f : Fitting s) (events : List Event) (b : AllBytes events)
   pub grows-between : (i j : ℕ) → i ≤ j → (cs : List (List ℕ)) × Grows (before s events i) (before s events j) cs
   grows-between i j h = let whole : i + (j - i) ≡ j = omega arith in rw whole at (grows-by i (j - i))
 
--- what the accepted admission of a place does, by the window that the list starts with
-pub record AddedAt (w : ℕ) (s : State) (events : List Event) (i : ℕ) (job recipe : List ℕ) : Type 0 where
-  pub allowed : windowAllowed w ≡ true
-  pub next : holds (before s events (suc i)) ≡ grown (holds (before s events i)) (chunks w job)
-  pub numbers : recipeOf (outcomeAt s events i job recipe)
-      ≡ map (number (holds (before s events (suc i)))) (chunks w job)
-  pub new : outcomeAt s events i job recipe .answer .«new_bytes» ≡ gained (holds (before s events i)) (chunks w job)
-  pub all :
-      outcomeAt s events i job recipe .answer .«new_bytes» + outcomeAt s events i job recipe .answer .«repeated_bytes»
-      ≡ length job
-  pub saving : outcomeAt s events i job recipe .answer .saving
-      ≡ savingOf (length job) (outcomeAt s events i job recipe .answer .«new_bytes») (length (chunks w job))
+-- a take asks
+pub taking-asks : {s : State} {e : Event} {job : List ℕ} {q : Quotation} → Takes s e job q → Asks s e job q
+taking-asks takes = byTake
+
+pub taken-asked : {s : State} {events : List Event} {i : ℕ} {job : List ℕ} {q : Quotation} → TakenAt s events i job q
+    → AskedAt s events i job q
+taken-asked a = record { stands = taking-asks (a .stands); accepted = a .accepted }
+
+-- what is asked in a state is a quote there, whether or not the job is taken
+pub as-quoted : {s : State} {e : Event} {job : List ℕ} {q : Quotation} → Asks s e job q
+    → (recipe : List ℕ) × (q ≡ quoteIn s job recipe)
+as-quoted (byQuote {job} {recipe}) = (recipe, refl)
+as-quoted {s} (byTake {job} {recipe}) = (recipe, same-quotation (s .head) (s .pool) (s .directory) recipe job)
+
+-- the chunks that a take which is not refused adds
+pub taken-chunks : {s : State} {e : Event} {job : List ℕ} {q : Quotation} → Takes s e job q
+    → accepted (q .answer .refusal) ≡ true → addedChunks s e ≡ chunks (s .head .window) job
+taken-chunks takes h = rw h
 
 -- a recipe names a job's chunks: the store holds them, and the recipe is their numbers
 pub record Named (w : ℕ) (t : State) (job recipe : List ℕ) : Type 0 where
   pub among : Among (chunks w job) (holds t)
   pub numbers : recipe ≡ map (number (holds t)) (chunks w job)
 
-module _ (s : State) (f : Fitting s) (events : List Event) (b : AllBytes events) (i : ℕ) (job recipe : List ℕ)
-    (a : AcceptedAt s events i job recipe) where
-  -- the accepted admission of a place adds the job's chunks
-  pub adds-at : AddedAt (s .head .window) s events i job recipe
-  unfolding before leaves
-  adds-at =
-      let t = before s events i in
-      let g = grows s f events b i in
-      let bytes = bytes-at events b i job recipe (a .stands) in
-      let d = adds (t .head) (t .pool) (t .directory) recipe job (g .fitting) bytes (a .accepted) in
-      let left : before s events (suc i) ≡ leaves t (admission job recipe) = ap (leaves t) (a .stands) in
-      let held = rw (g .window) at (d .held) in
-      record {
-        allowed = rw (g .window) at (d .allowed);
-        next = rw left held;
-        numbers = rw (left, held) (rw (g .window) at (d .recipe));
-        new = rw (g .window) at (d .new);
-        all = d .all;
-        saving = rw (g .window) at (d .saving);
-      }
+-- what is told of a job that is quoted or taken at a place, by the window that the list starts with
+pub record ToldAt (w : ℕ) (t : State) (job : List ℕ) (q : Quotation) : Type 0 where
+  pub allowed : windowAllowed w ≡ true
+  pub memory : memoryAllowed (t .pool) (t .directory) ≡ true
+  pub tells : Asked (holds t) (chunks w job) job q
+  pub short : length (chunks w job) ≤ recipeLimit
 
-  -- its recipe names the job's chunks at each later place
-  pub named-at : (j : ℕ) → i < j → Named (s .head .window) (before s events j) job (recipeOf (outcomeAt s events i job recipe))
-  named-at j h =
-      let d = adds-at in
-      let cs = chunks (s .head .window) job in
-      let g = grows-between s f events b (suc i) j h in
-      let next = holds (before s events (suc i)) in
-      let had : Among cs next = rw (d .next) (grown-has (holds (before s events i)) cs) in
-      record {
-        among = λ c k. rw (g .1 .held) (grown-keeps next (g .0) c (had c k));
-        numbers = rw (g .1 .held) (d .numbers ∙ sym (numbers-grown next (g .0) cs had));
-      }
+module _ (s : State) (f : Fitting s) (events : List Event) (b : AllBytes events) where
+  module _ (j : ℕ) (job : List ℕ) (q : Quotation) (a : AskedAt s events j job q) where
+    pub told-at : ToldAt (s .head .window) (before s events j) job q
+    told-at =
+        let t = before s events j in
+        let window = grows s f events b j .window in
+        let r = as-quoted (a .stands) in
+        let h : accepted (quoteIn t job (r .0) .answer .refusal) ≡ true = rw (← (r .1)) (a .accepted) in
+        let p = passed (t .head) (t .pool) (t .directory) (r .0) job h in
+        let told = asked (t .head) (t .pool) (t .directory) (r .0) job h in
+        let few = chunks-few (t .head) (t .pool) (t .directory) (r .0) job h in
+        record {
+          allowed = subst (λ v. windowAllowed v ≡ true) window (p .window);
+          memory = p .storeMemory;
+          tells = rw (r .1) (subst (λ v. Asked (holds t) (chunks v job) job (quoteIn t job (r .0))) window told);
+          short = subst (λ v. length (chunks v job) ≤ recipeLimit) window few;
+        }
+
+    -- the job is bytes
+    pub bytes-at : Bytes job
+    bytes-at = asked-bytes (a .stands) (bytes-in events b j)
+
+  module _ (i : ℕ) (job : List ℕ) (q : Quotation) (a : TakenAt s events i job q) where
+    -- the job that is taken at a place adds its chunks
+    pub next-holds : holds (before s events (suc i)) ≡ grown (holds (before s events i)) (chunks (s .head .window) job)
+    unfolding before
+    next-holds =
+        let g = grows s f events b i in
+        let once = grows-once (before s events i) (g .fitting) (eventAt events i) (bytes-in events b i) .held in
+        rw (taken-chunks (a .stands) (a .accepted), g .window) at once
+
+    -- its recipe names the job's chunks at each later place
+    pub named-at : (j : ℕ) → i < j → Named (s .head .window) (before s events j) job (recipeOf q)
+    named-at j h =
+        let cs = chunks (s .head .window) job in
+        let told = told-at i job q (taken-asked a) in
+        let g = grows-between s f events b (suc i) j h in
+        let next = holds (before s events (suc i)) in
+        let had : Among cs next = rw next-holds (grown-has (holds (before s events i)) cs) in
+        let numbers : recipeOf q ≡ map (number next) cs = rw next-holds (told .tells .recipe) in
+        record {
+          among = λ c k. rw (g .1 .held) (grown-keeps next (g .0) c (had c k));
+          numbers = rw (g .1 .held) (numbers ∙ sym (numbers-grown next (g .0) cs had));
+        }
 
 -- a fresh head fits any pool and directory
 pub start-fits : (w : ℕ) (pool directory : List ℕ) → Fitting (start w pool directory)

@@ -16,7 +16,8 @@ use Rattle.chunker.proofs.laws.KeptMaximum.{kept-cut}
 use Rattle.chunker.proofs.theorems.ChunkSizes.{last-size}
 use Rattle.chunker.proofs.theorems.SharedEnding.{chunks-append}
 use Rattle.store.specs.Contents.{grown, gained}
-use Rattle.store.proofs.laws.contents.Growth.{Among, among-parts, grown-keeps, gained-none, gained-past}
+use Rattle.store.proofs.laws.contents.Growth.{Among, among-parts, grown-keeps}
+use Rattle.store.proofs.laws.contents.Additions.{added-none, gained-past}
 use Rattle.promises.specs.Fields.{Field, filled, oldJob, revision, AllKept, ceilingOf, joined}
 
 -- bytes at the start of the opening stand at the start of the job
@@ -58,7 +59,7 @@ module _ (w : ℕ) (h : 1 ≤ w) (g : w ≤ windowLimit) where
   pub gained-fields : (fs : List Field) → AllKept w fs → (opening : List ℕ) → Bytes (revision opening fs)
       → (held : List (List ℕ)) → Among (chunks w (oldJob opening fs)) held
       → gained held (chunks w (revision opening fs)) ≤ ceilingOf w fs
-  gained-fields [] kept opening bytes held old = rw (gained-none held (chunks w opening) old) (omega arith)
+  gained-fields [] kept opening bytes held old = rw (added-none held (chunks w opening) old) (omega arith)
   gained-fields (f ∷ fs) kept opening bytes held old =
       let n = f .place + w in
       let upTo = take n (f .kept) in

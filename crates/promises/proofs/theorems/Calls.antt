@@ -1,7 +1,7 @@
 -- Demands 2 and 3, the ceiling of several fields and the saving, of a C program's calls on one store.
 use Prim.Native.Nat.{ℕ, zero, suc, _≤_, _<_}
 use native.Mathlib.Omega.{arith}
-use mathlib.Core.Path.{_≡_, refl, ap, ap₂, sym, _∙_}
+use mathlib.Core.Path.{_≡_, refl, ap, ap₂, sym, _∙_, subst}
 use mathlib.Core.Bool.{Bool, true, false, cond}
 use mathlib.Core.List.{List, [], _∷_, _++_}
 use lib.Dec.{eqb}
@@ -11,10 +11,12 @@ use Rattle.refusal.specs.Number.{numberOf, accepted}
 use Rattle.chunker.specs.Scanner.{windowAllowed}
 use Rattle.chunker.specs.KeptMaximum.{KeptMaximum}
 use Rattle.store.specs.Opening as store
-use Rattle.admission.proofs.laws.Admissions.{keeps}
+use Rattle.admission.specs.Quote.{Quotation}
+use Rattle.admission.proofs.laws.Takes.{untouched}
+use Rattle.admission.proofs.theorems.QuoteAndTake.{same-quotation}
 use Rattle.promises.specs.History as history
-use Rattle.promises.specs.History.{Event, admission, reading, State, start, eventAt, AcceptedAt, BytesIn, AllBytes}
-use Rattle.promises.proofs.laws.Events.{Fitting, grows, start-fits, bytes-in}
+use Rattle.promises.specs.History.{Event, quote, take, reading, State, start, eventAt, quoteIn, Takes, takes, Asks, byQuote, byTake}
+use Rattle.promises.specs.History.{TakenAt, AskedAt, AllBytes}
 use Rattle.promises.proofs.laws.Fields.{old-joined, revision-joined}
 use Rattle.promises.specs.Fields.{Field, oldJob, revision, AllKept, ceilingOf, joined}
 use Rattle.promises.proofs.theorems.FirstAppearances.{first-appearances}
@@ -22,31 +24,53 @@ use Rattle.promises.proofs.theorems.Saving.{saves}
 use Rattle.promises.proofs.theorems.GivesBack.{gives-back}
 use Rattle.promises.proofs.theorems.SeveralFields.{several-fields}
 use Rattle.promises.proofs.theorems.Promise.{promise}
-use Rattle.numbers.specs.Storing.{headNumbers}
-use Rattle.hirunvel.specs.Storing.{storeOpened, storeAdmitted}
+use Rattle.numbers.specs.Storing.{headNumbers, countsOf}
+use Rattle.hirunvel.specs.Storing.{StoreQuotation, storeOpened, storeQuoted, storeTaken}
 use Rattle.hirunvel.specs.Rebuilding.{jobRebuilt}
-use Rattle.promises.specs.Calls.{Memory, opened, call, leaves, chunksOf, before, chunksBefore, callAt, AcceptedCall, recipeOf, chargeOf, Counts, Saves, GivesBack, rebuild, PromisedCalls}
+use Rattle.promises.specs.Calls.{Memory, opened, leaves, chunksOf, before, chunksBefore, TakesCall, takesCall, AsksCall, quoteCalled, takeCalled}
+use Rattle.promises.specs.Calls.{TakenCall, AskedCall, recipeOf, chargeOf, Counts, Saves, GivesBack, rebuild, PromisedCalls}
 
 -- a store's state as a C program keeps it
 abbrev pub memoryOf : State → Memory
 memoryOf s = record { head = headNumbers (s .head); pool = s .pool; directory = s .directory }
 
--- a call's result is 0 just where the admission is accepted
-call-accepts : (s : State) (job recipe : List ℕ)
-    → eqb (call (memoryOf s) job recipe .refusal) 0 ≡ history.accepts s (admission job recipe)
-unfolding storeAdmitted
-call-accepts s job recipe = refl
+-- a quotation as a C program gets it
+abbrev pub numbersOf : Quotation → StoreQuotation
+numbersOf q =
+    record {
+      refusal = numberOf (q .answer .refusal);
+      recipe = q .recipe;
+      counts = countsOf (q .answer);
+      saving = q .answer .saving ∷ [];
+    }
+
+-- a call that takes a job is a take
+takes-called : {s : State} {e : Event} {job : List ℕ} {c : StoreQuotation} → TakesCall (memoryOf s) e job c
+    → (q : Quotation) × Takes s e job q × (c ≡ numbersOf q)
+unfolding storeTaken
+takes-called takesCall = (_, takes, refl)
+
+-- one that quotes or takes it is a quote or a take
+asks-called : {s : State} {e : Event} {job : List ℕ} {c : StoreQuotation} → AsksCall (memoryOf s) e job c
+    → (q : Quotation) × Asks s e job q × (c ≡ numbersOf q)
+unfolding storeQuoted storeTaken
+asks-called quoteCalled = (_, byQuote, refl)
+asks-called takeCalled = (_, byTake, refl)
 
 -- a call leaves what the event leaves: "the head written is the head handed back"
-call-leaves : (s : State) → Fitting s → (e : Event) → BytesIn e → leaves (memoryOf s) e ≡ memoryOf (history.leaves s e)
-unfolding leaves history.leaves storeAdmitted
-call-leaves s f reading b = refl
-call-leaves s f (admission job recipe) b = by-test (history.accepts s (admission job recipe)) refl
+call-leaves : (s : State) → (e : Event) → leaves (memoryOf s) e ≡ memoryOf (history.leaves s e)
+unfolding leaves history.leaves storeTaken
+call-leaves s (quote job recipe) = refl
+call-leaves s reading = refl
+call-leaves s (take job recipe) = by-test (history.accepts s (take job recipe)) refl
   where
-    by-test : (t : Bool) → history.accepts s (admission job recipe) ≡ t
-        → leaves (memoryOf s) (admission job recipe) ≡ memoryOf (history.leaves s (admission job recipe))
+    same : history.accepts s (take job recipe) ≡ accepted (quoteIn s job recipe .answer .refusal)
+    same = ap (λ q. accepted (q .answer .refusal)) (same-quotation (s .head) (s .pool) (s .directory) recipe job)
+
+    by-test : (t : Bool) → history.accepts s (take job recipe) ≡ t
+        → leaves (memoryOf s) (take job recipe) ≡ memoryOf (history.leaves s (take job recipe))
     by-test true h = rw h
-    by-test false h = rw (h, keeps (s .head) (s .pool) (s .directory) recipe job f b h .sameHead)
+    by-test false h = rw (h, untouched (s .head) (s .pool) (s .directory) recipe job (sym same ∙ h) .sameHead)
 
 module _ (w : ℕ) (allowed : storeOpened w .refusal ≡ 0) (pool directory : List ℕ) (calls : List Event)
     (b : AllBytes calls) where
@@ -71,27 +95,31 @@ module _ (w : ℕ) (allowed : storeOpened w .refusal ≡ 0) (pool directory : Li
   unfolding before history.before
   calls-history zero = opened-start
   calls-history (suc i) =
-      let f = grows s (start-fits w pool directory) calls b i .fitting in
-      ap (λ n. leaves n (eventAt calls i)) (calls-history i)
-      ∙ call-leaves (history.before s calls i) f (eventAt calls i) (bytes-in calls b i)
+      ap (λ n. leaves n (eventAt calls i)) (calls-history i) ∙ call-leaves (history.before s calls i) (eventAt calls i)
 
-  -- an accepted call is an accepted admission
-  accepted-at : (i : ℕ) (job recipe : List ℕ) → AcceptedCall m calls i job recipe → AcceptedAt s calls i job recipe
-  accepted-at i job recipe a =
-      record {
-        stands = a .stands;
-        accepted = sym (call-accepts (history.before s calls i) job recipe)
-            ∙ eq-eqb _ 0 (ap (λ n. call n job recipe .refusal) (sym (calls-history i)) ∙ a .accepted);
-      }
+  -- a call that takes a job and returns 0 is a take that is not refused
+  taken-at : {i : ℕ} {job : List ℕ} {c : StoreQuotation} → TakenCall m calls i job c
+      → (q : Quotation) × TakenAt s calls i job q × (c ≡ numbersOf q)
+  taken-at {i} {job} {c} a =
+      let t = takes-called (subst (λ n. TakesCall n (eventAt calls i) job c) (calls-history i) (a .stands)) in
+      (t .0, record { stands = t .1; accepted = eq-eqb _ 0 (ap (λ x. x .refusal) (sym (t .2)) ∙ a .accepted) }, t .2)
+
+  -- one that quotes or takes it and returns 0 is a quote or a take that is not refused
+  asked-at : {j : ℕ} {job : List ℕ} {c : StoreQuotation} → AskedCall m calls j job c
+      → (q : Quotation) × AskedAt s calls j job q × (c ≡ numbersOf q)
+  asked-at {j} {job} {c} a =
+      let t = asks-called (subst (λ n. AsksCall n (eventAt calls j) job c) (calls-history j) (a .stands)) in
+      (t .0, record { stands = t .1; accepted = eq-eqb _ 0 (ap (λ x. x .refusal) (sym (t .2)) ∙ a .accepted) }, t .2)
 
   -- the chunks of an event by the call's result
   call-chunks : (t : State) (e : Event)
       → chunksOf w (memoryOf t) e ≡ cond (history.accepts t e) (history.chunksOf w e) []
-  unfolding storeAdmitted
-  call-chunks t (admission job recipe) = refl
+  unfolding storeTaken
+  call-chunks t (quote job recipe) = refl
+  call-chunks t (take job recipe) = refl
   call-chunks t reading = refl
 
-  -- the jobs that earlier calls accepted are those accepted before
+  -- the jobs that earlier calls took are those accepted before
   chunks-before : (i : ℕ) → chunksBefore m calls w i ≡ history.chunksBefore s calls i
   unfolding chunksBefore history.chunksBefore
   chunks-before zero = refl
@@ -101,68 +129,55 @@ module _ (w : ℕ) (allowed : storeOpened w .refusal ≡ 0) (pool directory : Li
       ∙ call-chunks (history.before s calls i) (eventAt calls i))
 
   -- demand 2: new bytes are the first appearances
-  pub counts : (i : ℕ) (job recipe : List ℕ) → AcceptedCall m calls i job recipe → Counts w m calls i job recipe
-  unfolding storeAdmitted
-  counts i job recipe a =
-      let first = first-appearances w pool directory calls b i job recipe (accepted-at i job recipe a) in
-      let here = calls-history i in
-      record { first = rw (here, chunks-before i) (first .first); all = rw here (first .all) }
+  pub counts : (j : ℕ) (job : List ℕ) (c : StoreQuotation) → AskedCall m calls j job c → Counts w m calls j job c
+  counts j job c a =
+      let t = asked-at a in
+      rw (t .2, chunks-before j) (first-appearances w pool directory calls b j job (t .0) (t .1))
 
   -- the saving is the tariff's, of the first appearances and of a number for each chunk
-  pub saved : (i : ℕ) (job recipe : List ℕ) → AcceptedCall m calls i job recipe → Saves w m calls i job recipe
-  unfolding storeAdmitted
-  saved i job recipe a =
-      let e = saves w pool directory calls b i job recipe (accepted-at i job recipe a) in
-      rw (calls-history i, chunks-before i) (ap (λ z. z ∷ []) e)
+  pub saved : (j : ℕ) (job : List ℕ) (c : StoreQuotation) → AskedCall m calls j job c → Saves w m calls j job c
+  saved j job c a =
+      let t = asked-at a in
+      rw (t .2, chunks-before j) (ap (λ z. z ∷ []) (saves w pool directory calls b j job (t .0) (t .1)))
 
-  -- demand 2: after any later call, the recipe that an accepted call left gives the job back
-  pub rebuilds : (i : ℕ) (job recipe : List ℕ) → AcceptedCall m calls i job recipe → (j : ℕ) → i < j
+  -- demand 2: after any later call, the recipe that a take left gives the job back
+  pub rebuilds : (i : ℕ) (job : List ℕ) (c : StoreQuotation) → TakenCall m calls i job c → (j : ℕ) → i < j
       → (output : List ℕ) → length job ≤ length output
-      → GivesBack job output (rebuild (before m calls j) (recipeOf (callAt m calls i job recipe)) output)
-  unfolding storeAdmitted jobRebuilt
-  rebuilds i job recipe a j l output room =
-      let back = gives-back w pool directory calls b i job recipe (accepted-at i job recipe a) j l output room in
-      rw (calls-history i, calls-history j)
+      → GivesBack job output (rebuild (before m calls j) (recipeOf c) output)
+  unfolding jobRebuilt
+  rebuilds i job c a j l output room =
+      let t = taken-at a in
+      let back = gives-back w pool directory calls b i job (t .0) (t .1) j l output room in
+      rw (t .2, calls-history j)
       (record { refusal = ap numberOf (back .refusal); written = ap (λ n. n ∷ []) (back .written); bytes = back .output })
 
-  -- demand 3: of every two accepted calls, each division and each kept maximum
-  pub promised : (i j : ℕ) → i < j → (beginning replaced changed ending oldRecipe newRecipe : List ℕ)
-      → AcceptedCall m calls i (beginning ++ (replaced ++ ending)) oldRecipe
-      → AcceptedCall m calls j (beginning ++ (changed ++ ending)) newRecipe
-      → (k : ℕ) → KeptMaximum w ending k
-      → PromisedCalls w m calls i j beginning replaced changed ending oldRecipe newRecipe k
-  unfolding storeAdmitted
-  promised i j l beginning replaced changed ending oldRecipe newRecipe old new k kept =
-      let p = promise w pool directory calls b i j l beginning replaced changed ending oldRecipe newRecipe
-      (accepted-at i _ oldRecipe old) (accepted-at j _ newRecipe new) k kept in
-      let here = calls-history i in
-      let there = calls-history j in
-      record {
-        ceiling = rw there (p .ceiling);
-        linedUp = p .linedUp;
-        sameNumbers = rw (here, there) (p .sameNumbers);
-        equallyMany = rw here (p .equallyMany);
-      }
+  -- demand 3: of every take of a job, every later quote or take of a revision, each division and each kept maximum
+  pub promised : (i j : ℕ) → i < j → (beginning replaced changed ending : List ℕ) (old new : StoreQuotation)
+      → TakenCall m calls i (beginning ++ (replaced ++ ending)) old
+      → AskedCall m calls j (beginning ++ (changed ++ ending)) new
+      → (k : ℕ) → KeptMaximum w ending k → PromisedCalls w beginning replaced changed ending k old new
+  promised i j l beginning replaced changed ending old new taken asked k kept =
+      let t = taken-at taken in
+      let u = asked-at asked in
+      rw (t .2, u .2)
+      (promise w pool directory calls b i j l beginning replaced changed ending (t .0) (u .0) (t .1) (u .1) k kept)
 
-  -- several changed fields: of every two accepted calls and each division into fields
-  pub several-fields-called : (i j : ℕ) → i < j → (opening : List ℕ) (fields : List Field) (oldRecipe newRecipe : List ℕ)
-      → AcceptedCall m calls i (oldJob opening fields) oldRecipe
-      → AcceptedCall m calls j (revision opening fields) newRecipe
-      → AllKept w fields → chargeOf (callAt m calls j (revision opening fields) newRecipe) ≤ ceilingOf w fields
-  unfolding storeAdmitted
-  several-fields-called i j l opening fields oldRecipe newRecipe old new kept =
-      rw (calls-history j)
-      (several-fields w pool directory calls b i j l opening fields oldRecipe newRecipe
-      (accepted-at i _ oldRecipe old) (accepted-at j _ newRecipe new) kept)
+  -- several changed fields: of each division into fields
+  pub several-fields-called : (i j : ℕ) → i < j → (opening : List ℕ) (fields : List Field) (old new : StoreQuotation)
+      → TakenCall m calls i (oldJob opening fields) old → AskedCall m calls j (revision opening fields) new
+      → AllKept w fields → chargeOf new ≤ ceilingOf w fields
+  several-fields-called i j l opening fields old new taken asked kept =
+      let t = taken-at taken in
+      let u = asked-at asked in
+      rw (u .2) (several-fields w pool directory calls b i j l (t .0) (u .0) opening fields (t .1) (u .1) kept)
 
   -- what lines up after the last of them
   pub last-field-called : (i j : ℕ) → i < j
-      → (opening : List ℕ) (fields : List Field) (last : Field) (oldRecipe newRecipe : List ℕ)
-      → AcceptedCall m calls i (oldJob opening (fields ++ (last ∷ []))) oldRecipe
-      → AcceptedCall m calls j (revision opening (fields ++ (last ∷ []))) newRecipe
+      → (opening : List ℕ) (fields : List Field) (last : Field) (old new : StoreQuotation)
+      → TakenCall m calls i (oldJob opening (fields ++ (last ∷ []))) old
+      → AskedCall m calls j (revision opening (fields ++ (last ∷ []))) new
       → KeptMaximum w (last .kept) (last .place)
-      → PromisedCalls w m calls i j opening (joined fields last .replaced) (joined fields last .changed) (last .kept)
-      oldRecipe newRecipe (last .place)
-  last-field-called i j l opening fields last oldRecipe newRecipe old new kept =
-      promised i j l opening (joined fields last .replaced) (joined fields last .changed) (last .kept) oldRecipe newRecipe
-      (rw (old-joined opening fields last) at old) (rw (revision-joined opening fields last) at new) (last .place) kept
+      → PromisedCalls w opening (joined fields last .replaced) (joined fields last .changed) (last .kept) (last .place) old new
+  last-field-called i j l opening fields last old new taken asked kept =
+      promised i j l opening (joined fields last .replaced) (joined fields last .changed) (last .kept) old new
+      (rw (old-joined opening fields last) at taken) (rw (revision-joined opening fields last) at asked) (last .place) kept

@@ -5,7 +5,7 @@ use mathlib.Core.Path.{_≡_, refl}
 use mathlib.Core.List.{List, [], _∷_, _++_}
 use lib.ListN.{length, replicate}
 use Rattle.chunker.specs.KeptMaximum.{KeptMaximum}
-use Rattle.promises.specs.History.{Event, start, outcomeAt}
+use Rattle.promises.specs.History.{Event, start, takeIn, before}
 use Rattle.promises.specs.Fields.{Field, oldJob, revision, ceilingOf}
 use Rattle.promises.proofs.theorems.StarredJobs.{rising, handed, counts, kept-maximum}
 
@@ -20,8 +20,8 @@ events = handed (oldJob [] (field ∷ [])) ∷ handed (revision [] (field ∷ []
 -- the charge of the revision
 abbrev pub charge : ℕ
 charge =
-    outcomeAt (start 1 (replicate 528 0) (replicate 32 0)) events 1 (revision [] (field ∷ [])) (replicate 8 0) .answer
-    .«new_bytes»
+    takeIn (before (start 1 (replicate 528 0) (replicate 32 0)) events 1) (revision [] (field ∷ [])) (replicate 8 0) .answer
+    .quoted .«new_bytes»
 
 -- is its length
 pub charged-whole : (charge ≡ 265) × (length (revision [] (field ∷ [])) ≡ 265)
@@ -44,7 +44,8 @@ place-outside = (
 )
 
 -- "the last reaching the end of both jobs": 00 to FF rising, where the old job has one more byte; no field is changed
-pub end-outside : outcomeAt (start 1 (replicate 513 0) (replicate 4 0)) (handed (rising ++ (0 ∷ [])) ∷ handed rising ∷ []) 1
-    rising (replicate 8 0) .answer .«new_bytes» ≡ 256
+pub end-outside :
+    takeIn (before (start 1 (replicate 513 0) (replicate 4 0)) (handed (rising ++ (0 ∷ [])) ∷ handed rising ∷ []) 1) rising
+    (replicate 8 0) .answer .quoted .«new_bytes» ≡ 256
 unfolding counts
 end-outside = refl

@@ -6,7 +6,9 @@ use native.Mathlib.Omega.{arith}
 use mathlib.Core.Path.{_≡_, refl}
 use mathlib.Core.List.{List, [], _∷_}
 use lib.ListN.{length, replicate}
-use Rattle.promises.specs.History.{Event, admission, start, outcomeAt}
+use Rattle.admission.specs.Quote.{Quotation}
+use Rattle.admission.specs.Take.{quotationOf}
+use Rattle.promises.specs.History.{Event, take, start, takeIn, before, takes, byTake}
 use Rattle.promises.specs.Fields.{Field, oldJob, revision, ceilingOf}
 use Rattle.promises.proofs.theorems.SeveralFields.{several-fields}
 use Rattle.promises.proofs.theorems.StarredJobs.{rising, handed, counts, kept-maximum}
@@ -14,12 +16,10 @@ use Rattle.promises.proofs.theorems.Witnesses.{Premises, bytes-below}
 
 -- what meets the premises is charged at most the sum
 pub charged : (w : ℕ) (pool directory : List ℕ) (events : List Event) (i j : ℕ) (opening : List ℕ) (fields : List Field)
-    (oldRecipe newRecipe : List ℕ) → Premises w pool directory events i j opening fields oldRecipe newRecipe
-    → outcomeAt (start w pool directory) events j (revision opening fields) newRecipe .answer .«new_bytes»
-    ≤ ceilingOf w fields
-charged w pool directory events i j opening fields oldRecipe newRecipe p =
-    several-fields w pool directory events (p .bytes) i j (p .order) opening fields oldRecipe newRecipe
-    (p .old) (p .new) (p .kept)
+    (old new : Quotation) → Premises w pool directory events i j opening fields old new
+    → new .answer .«new_bytes» ≤ ceilingOf w fields
+charged w pool directory events i j opening fields old new p =
+    several-fields w pool directory events (p .bytes) i j (p .order) old new opening fields (p .taken) (p .asked) (p .kept)
 
 -- a byte comes in at two places, each after 00 to FF rising
 abbrev pub twoBytes : List Field
@@ -32,9 +32,14 @@ twoBytes =
 abbrev pub tightTwice : List Event
 tightTwice = handed (oldJob rising twoBytes) ∷ handed (revision rising twoBytes) ∷ []
 
--- meet all that is asked of several fields
+-- what is told of the job at each place
+abbrev pub twiceTold : ℕ → List ℕ → Quotation
+twiceTold i job =
+    quotationOf (takeIn (before (start 1 (replicate 1038 0) (replicate 16 0)) tightTwice i) job (replicate 8 0))
+
+-- they meet all that is asked of several fields
 pub twice-premises : Premises 1 (replicate 1038 0) (replicate 16 0) tightTwice 0 1 rising twoBytes
-    (replicate 8 0) (replicate 8 0)
+    (twiceTold 0 (oldJob rising twoBytes)) (twiceTold 1 (revision rising twoBytes))
 unfolding counts
 twice-premises =
     record {
@@ -43,8 +48,8 @@ twice-premises =
         (bytes-below (revision rising twoBytes) refl, tt),
       );
       order = omega arith;
-      old = record { stands = refl; accepted = refl };
-      new = record { stands = refl; accepted = refl };
+      taken = record { stands = takes; accepted = refl };
+      asked = record { stands = byTake; accepted = refl };
       kept = (
         kept-maximum 1 _ 2 (omega arith) (omega arith) (omega arith) (omega arith),
         (kept-maximum 1 _ 2 (omega arith) (omega arith) (omega arith) (omega arith), tt),
@@ -53,9 +58,7 @@ twice-premises =
 
 -- the charge of the revision
 abbrev pub twiceCharge : ℕ
-twiceCharge =
-    outcomeAt (start 1 (replicate 1038 0) (replicate 16 0)) tightTwice 1 (revision rising twoBytes) (replicate 8 0)
-    .answer .«new_bytes»
+twiceCharge = twiceTold 1 (revision rising twoBytes) .answer .«new_bytes»
 
 -- is at most the sum
 pub twice-charged : twiceCharge ≤ ceilingOf 1 twoBytes
@@ -99,14 +102,18 @@ dateAndAddress =
 -- the label, its revision, and the revision again
 abbrev pub labels : List Event
 labels =
-    admission (oldJob opening dateAndAddress) (replicate 40 0)
-    ∷ admission (revision opening dateAndAddress) (replicate 40 0)
-    ∷ admission (revision opening dateAndAddress) (replicate 40 0)
+    take (oldJob opening dateAndAddress) (replicate 40 0)
+    ∷ take (revision opening dateAndAddress) (replicate 40 0)
+    ∷ take (revision opening dateAndAddress) (replicate 40 0)
     ∷ []
+
+-- what is told of each
+abbrev pub labelTold : ℕ → List ℕ → Quotation
+labelTold i job = quotationOf (takeIn (before (start 2 (replicate 160 0) (replicate 80 0)) labels i) job (replicate 40 0))
 
 -- the first two meet all that is asked
 pub label-premises : Premises 2 (replicate 160 0) (replicate 80 0) labels 0 1 opening dateAndAddress
-    (replicate 40 0) (replicate 40 0)
+    (labelTold 0 (oldJob opening dateAndAddress)) (labelTold 1 (revision opening dateAndAddress))
 unfolding counts
 label-premises =
     record {
@@ -118,8 +125,8 @@ label-premises =
         ),
       );
       order = omega arith;
-      old = record { stands = refl; accepted = refl };
-      new = record { stands = refl; accepted = refl };
+      taken = record { stands = takes; accepted = refl };
+      asked = record { stands = byTake; accepted = refl };
       kept = (
         kept-maximum 2 _ 4 (omega arith) (omega arith) (omega arith) (omega arith),
         (kept-maximum 2 _ 4 (omega arith) (omega arith) (omega arith) (omega arith), tt),
@@ -128,9 +135,7 @@ label-premises =
 
 -- the charge of the revision at a place of the list
 abbrev pub labelCharge : ℕ → ℕ
-labelCharge j =
-    outcomeAt (start 2 (replicate 160 0) (replicate 80 0)) labels j (revision opening dateAndAddress) (replicate 40 0)
-    .answer .«new_bytes»
+labelCharge j = labelTold j (revision opening dateAndAddress) .answer .«new_bytes»
 
 -- is at most the sum
 pub label-charged : labelCharge 1 ≤ ceilingOf 2 dateAndAddress

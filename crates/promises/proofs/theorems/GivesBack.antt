@@ -1,12 +1,10 @@
--- The recipe of each accepted job gives the job back at every later place of a list of events.
+-- The recipe of each job that is taken gives the job back at every later place of a list of events.
 use Prim.Native.Nat.{ℕ, _≤_, _<_}
-use native.Mathlib.Omega.{arith}
 use mathlib.Core.Path.{_≡_, refl, ap₂, sym, _∙_}
 use mathlib.Core.Bool.{true}
 use mathlib.Core.List.{List, [], _∷_, _++_, map}
-use borrow.Author.Tests.{leb-true, le-leb, lt-ltb}
-use lib.ListN.{length, length-take}
-use Rattle.refusal.specs.Number.{accepted}
+use borrow.Author.Tests.{le-leb, lt-ltb}
+use lib.ListN.{length, length-map}
 use Rattle.refusal.specs.declared.Refusal.the-variants.{Accepted}
 use Rattle.chunker.specs.Splitting.{joined}
 use Rattle.chunker.specs.Chunks.{chunks}
@@ -15,12 +13,11 @@ use Rattle.store.specs.declared.Head.{Head}
 use Rattle.store.specs.Grounds.{memoryAllowed, recipeAllowed, allBelow}
 use Rattle.store.specs.Memory.{contents}
 use Rattle.store.specs.Contents.{number}
-use Rattle.admission.specs.Admission.{Admission, recipeOf}
-use Rattle.promises.specs.History.{Event, start, before, AcceptedAt, outcomeAt, AllBytes}
+use Rattle.admission.specs.Quote.{Quotation, recipeOf}
+use Rattle.promises.specs.History.{Event, start, holds, before, TakenAt, AllBytes}
 use Rattle.store.proofs.laws.contents.Growth.{Among, among-each}
 use Rattle.store.proofs.laws.ChunkOfNumber.{number-counted, chunk-of-number}
-use Rattle.promises.proofs.laws.Events.{grows, adds-at, named-at, start-fits}
-use Rattle.admission.proofs.laws.Lengths.{as-long, within-limits, memory-allowed-same}
+use Rattle.promises.proofs.laws.Events.{grows, told-at, taken-asked, named-at, start-fits}
 use Rattle.rebuild.specs.Rebuilding.{rebuiltBytes, rebuildGround, rebuilt}
 use Rattle.promises.specs.GivesBack.{GivesBack}
 use Rattle.rebuild.proofs.laws.grounds.RebuildGround.{all-pass}
@@ -45,13 +42,16 @@ module _ (pool directory : List ℕ) (n : ℕ) where
       rw (lt-ltb _ _ (number-counted pool directory n c (among-each (contents pool directory n) c cs h .0)))
       (numbers-below cs (among-each (contents pool directory n) c cs h .1))
 
--- the recipe of an admission that was lent one within the limit is within it
-recipe-of-allowed : (a : Admission) (lent : List ℕ) → length (a .recipe) ≡ length lent → recipeAllowed lent ≡ true
-    → recipeAllowed (recipeOf a) ≡ true
+-- as many numbers as a job has chunks are within the limit of a recipe
+numbers-allowed : (f : List ℕ → ℕ) (cs : List (List ℕ)) → length cs ≤ recipeLimit → recipeAllowed (map f cs) ≡ true
 unfolding recipeAllowed
-recipe-of-allowed a lent e h =
-    let n = a .answer .«recipe_length» in
-    le-leb (length (recipeOf a)) recipeLimit (omega (arith, length-take n (a .recipe), leb-true (length lent) recipeLimit h))
+numbers-allowed f cs h = le-leb (length (map f cs)) recipeLimit (rw length-map h)
+
+-- the limits of pool and directory depend on their lengths only
+memory-allowed-same : (pool directory pool′ directory′ : List ℕ) → length pool′ ≡ length pool
+    → length directory′ ≡ length directory → memoryAllowed pool directory ≡ true → memoryAllowed pool′ directory′ ≡ true
+unfolding memoryAllowed
+memory-allowed-same pool directory pool′ directory′ p d h = rw (p, d) h
 
 -- a rebuilding on which no ground holds
 rebuilt-accepted : (head : Head) (pool directory recipe output : List ℕ)
@@ -62,55 +62,32 @@ unfolding rebuilt
 rebuilt-accepted head pool directory recipe output g job e =
     rw (g, e) (record { refusal = refl; written = refl; output = refl })
 
-module _ (w : ℕ) (pool directory : List ℕ) (events : List Event) (b : AllBytes events)
-    (i : ℕ) (job recipe : List ℕ) (a : AcceptedAt (start w pool directory) events i job recipe) where
-  -- the memory that the admission was lent is within the limits at each place
-  memory-allowed : (j : ℕ)
-      → let later = before (start w pool directory) events j in
-      memoryAllowed (later .pool) (later .directory) ≡ true
-  memory-allowed j =
-      let s = start w pool directory in
-      let t = before s events i in
-      let here = grows s (start-fits w pool directory) events b i in
-      let there = grows s (start-fits w pool directory) events b j in
-      memory-allowed-same (t .pool) (t .directory) _ _
-      (there .poolLength ∙ sym (here .poolLength)) (there .directoryLength ∙ sym (here .directoryLength))
-      (within-limits (t .head) (t .pool) (t .directory) recipe job (a .accepted) .0)
-
-  -- so is its recipe
-  recipe-allowed : recipeAllowed (recipeOf (outcomeAt (start w pool directory) events i job recipe)) ≡ true
-  recipe-allowed =
-      let s = start w pool directory in
-      let t = before s events i in
-      let f = grows s (start-fits w pool directory) events b i .fitting in
-      recipe-of-allowed (outcomeAt s events i job recipe) recipe
-      (as-long (t .head) (t .pool) (t .directory) recipe job f .recipeLength)
-      (within-limits (t .head) (t .pool) (t .directory) recipe job (a .accepted) .1)
-
--- a job that is accepted at place i is given back by its recipe from the store as it stands before each later place j,
--- whatever was admitted or refused between; past the list's end, that is the store after the whole list
+-- a job that is taken at place i is given back by its recipe from the store as it stands before each later place j, whatever
+-- was quoted, taken or refused between; past the list's end, that is the store after the whole list
 pub gives-back : (w : ℕ) (pool directory : List ℕ) (events : List Event) → AllBytes events
-    → (i : ℕ) (job recipe : List ℕ) → AcceptedAt (start w pool directory) events i job recipe
+    → (i : ℕ) (job : List ℕ) (q : Quotation) → TakenAt (start w pool directory) events i job q
     → (j : ℕ) → i < j → (output : List ℕ) → length job ≤ length output
     → let later = before (start w pool directory) events j in
-    GivesBack job output
-    (rebuilt (later .head) (later .pool) (later .directory)
-    (recipeOf (outcomeAt (start w pool directory) events i job recipe)) output)
-gives-back w pool directory events b i job recipe a j h output room =
+    GivesBack job output (rebuilt (later .head) (later .pool) (later .directory) (recipeOf q) output)
+gives-back w pool directory events b i job q a j h output room =
     let s = start w pool directory in
     let t = before s events j in
     let f = start-fits w pool directory in
+    let here = grows s f events b i in
     let g = grows s f events b j in
-    let named = named-at s f events b i job recipe a j h in
+    let told = told-at s f events b i job q (taken-asked a) in
+    let named = named-at s f events b i job q a j h in
     let numbers = named .numbers in
     let among = named .among in
-    let bytes : rebuiltBytes (t .pool) (t .directory) (recipeOf (outcomeAt s events i job recipe)) ≡ job =
+    let memory = memory-allowed-same (before s events i .pool) (before s events i .directory) (t .pool) (t .directory)
+    (g .poolLength ∙ sym (here .poolLength)) (g .directoryLength ∙ sym (here .directoryLength)) (told .memory) in
+    let bytes : rebuiltBytes (t .pool) (t .directory) (recipeOf q) ≡ job =
     rw numbers (numbers-rebuilt (t .pool) (t .directory) (t .head .chunks .0) (chunks w job) among ∙ chunks-joined w job) in
     rebuilt-accepted (t .head) (t .pool) (t .directory) _ output
     (all-pass (t .head) (t .pool) (t .directory) _ output
-    (rw (g .window) (adds-at s f events b i job recipe a .allowed))
-    (memory-allowed w pool directory events b i job recipe a j)
-    (recipe-allowed w pool directory events b i job recipe a)
+    (rw (g .window) (told .allowed))
+    memory
+    (rw numbers (numbers-allowed (number (holds t)) (chunks w job) (told .short)))
     (g .fitting)
     (rw numbers (numbers-below (t .pool) (t .directory) (t .head .chunks .0) (chunks w job) among))
     (rw bytes room))

@@ -17,13 +17,15 @@ use Rattle.chunker.specs.Chunks.{cutChunks, remaining, chunks}
 use Rattle.chunker.specs.Method.{byteAt, FirstMaximumPoint}
 use Rattle.chunker.specs.KeptMaximum.{KeptMaximum}
 use Rattle.store.specs.Memory.{chunksFrom}
-use Rattle.store.specs.Contents.{same, number}
+use Rattle.store.specs.Contents.{same, number, has, gain, added, repeated, numbers}
 use Rattle.directory.specs.Layout.{laidOut}
 use Rattle.store.specs.Grounds.{fits, memoryAllowed, recipeAllowed}
 use Rattle.tariff.specs.Tariff.{packets, savingOf}
-use Rattle.admission.specs.Admission.{jobAllowed, admissionGround, admitted, recipeOf}
-use Rattle.chunk_admission.specs.Snapshot.{chunkGround, afterChunk, chunksOutcome}
-use Rattle.promises.specs.History.{Event, admission, State, start, outcome, leaves, before}
+use Rattle.survey.specs.Walk.{chunkGround, walk}
+use Rattle.admission.specs.Grounds.{jobAllowed, admissionGround}
+use Rattle.admission.specs.Quote.{quoted, recipeOf}
+use Rattle.admission.specs.Take.{quotationOf, taken}
+use Rattle.promises.specs.History.{Event, take, State, start, takeIn, leaves, before}
 
 -- n numbers, counting up from b
 abbrev pub risingFrom : ℕ → ℕ → List ℕ
@@ -39,30 +41,30 @@ unfoldable pub lengths : ℕ → List ℕ → List ℕ × ℕ
 unfolding cutChunks remaining move next
 lengths w job = (map length (cutChunks (fresh w) [] job), length (remaining (fresh w) [] job))
 
--- the admission of a job with a lent recipe of 8 numbers
+-- the take of a job with a lent recipe of 8 numbers
 abbrev pub handed : List ℕ → Event
-handed job = admission job (replicate 8 0)
+handed job = take job (replicate 8 0)
 
--- a fresh store with a pool of 32 bytes and 8 directory entries, after the admission of jobs
+-- a fresh store with a pool of 32 bytes and 8 directory entries, after the takes of jobs
 abbrev pub storeAfter : ℕ → List (List ℕ) → State
 storeAfter w jobs = before (start w (replicate 32 0) (replicate 16 0)) (map handed jobs) (length jobs)
 
--- what the admission of a further job comes to: refusal, recipe, new bytes, repeated bytes and saving
--- (to unfold it is to unfold all that an admission is computed with)
+-- what the take of a further job comes to: refusal, recipe, new bytes, repeated bytes and saving
+-- (to unfold it is to unfold all that a quote and a take are computed with)
 unfoldable pub counts : ℕ → List (List ℕ) → List ℕ → Refusal × List ℕ × ℕ × ℕ × ℤ
 unfolding
-    lengths windowAllowed chunks chunksFrom same number laidOut fits memoryAllowed recipeAllowed jobAllowed
-    chunkGround afterChunk chunksOutcome packets savingOf admissionGround admitted leaves before
+    lengths windowAllowed chunks chunksFrom same number has gain added repeated numbers laidOut fits memoryAllowed recipeAllowed
+    jobAllowed chunkGround walk packets savingOf admissionGround quoted taken leaves before
 counts w jobs job =
-    let o = outcome (storeAfter w jobs) job (replicate 8 0) in
-    let a = o .answer in
-    (a .refusal, recipeOf o, a .«new_bytes», a .«repeated_bytes», a .saving)
+    let q = quotationOf (takeIn (storeAfter w jobs) job (replicate 8 0)) in
+    let a = q .answer in
+    (a .refusal, recipeOf q, a .«new_bytes», a .«repeated_bytes», a .saving)
 
 pub data Row : Type 0 where
   -- the lengths of the chunks of a job
   cutting : (w : ℕ) (job : List ℕ) (expected : List ℕ × ℕ) → Row
   -- the counts of a job that comes after others
-  admitting : (w : ℕ) (jobs : List (List ℕ)) (job : List ℕ) (expected : Refusal × List ℕ × ℕ × ℕ × ℤ) → Row
+  taking : (w : ℕ) (jobs : List (List ℕ)) (job : List ℕ) (expected : Refusal × List ℕ × ℕ × ℕ × ℤ) → Row
   -- place p is the first maximum point of a chunk, by the published method
   peaking : (w : ℕ) (chunk : List ℕ) (p : ℕ) → Row
   -- place k of an ending is one from which jobs line up
@@ -72,7 +74,7 @@ pub data Row : Type 0 where
 
 abbrev pub Holds : Row → Type 0
 Holds (cutting w job expected) = lengths w job ≡ expected
-Holds (admitting w jobs job expected) = counts w jobs job ≡ expected
+Holds (taking w jobs job expected) = counts w jobs job ≡ expected
 Holds (peaking w chunk p) = FirstMaximumPoint w chunk p
 Holds (kept w ending k) = KeptMaximum w ending k
 Holds (notKept w ending k) = KeptMaximum w ending k → ⊥
@@ -93,10 +95,10 @@ rows =
     ∷ cutting 2 (1 ∷ 2 ∷ 3 ∷ 4 ∷ []) ([], 4)
     ∷ cutting 1 rising ([], 256)
     ∷ cutting 1 (rising ++ (0 ∷ [])) (257 ∷ [], 0)
-    ∷ admitting 2 [] (3 ∷ 1 ∷ 2 ∷ 3 ∷ 1 ∷ 2 ∷ 7 ∷ []) (Accepted, 0 ∷ 0 ∷ 1 ∷ [], 4, 3, negsuc 68)
-    ∷ admitting 2 [] (9 ∷ []) (Accepted, 0 ∷ [], 1, 0, negsuc 71)
-    ∷ admitting 2 [] (5 ∷ 1 ∷ 1 ∷ 9 ∷ 2 ∷ 3 ∷ 4 ∷ []) (Accepted, 0 ∷ 1 ∷ 2 ∷ [], 7, 0, negsuc 71)
-    ∷ admitting 2 ((5 ∷ 1 ∷ 1 ∷ 9 ∷ 2 ∷ 3 ∷ 4 ∷ []) ∷ []) (6 ∷ 6 ∷ 1 ∷ 1 ∷ 9 ∷ 2 ∷ 3 ∷ 4 ∷ [])
+    ∷ taking 2 [] (3 ∷ 1 ∷ 2 ∷ 3 ∷ 1 ∷ 2 ∷ 7 ∷ []) (Accepted, 0 ∷ 0 ∷ 1 ∷ [], 4, 3, negsuc 68)
+    ∷ taking 2 [] (9 ∷ []) (Accepted, 0 ∷ [], 1, 0, negsuc 71)
+    ∷ taking 2 [] (5 ∷ 1 ∷ 1 ∷ 9 ∷ 2 ∷ 3 ∷ 4 ∷ []) (Accepted, 0 ∷ 1 ∷ 2 ∷ [], 7, 0, negsuc 71)
+    ∷ taking 2 ((5 ∷ 1 ∷ 1 ∷ 9 ∷ 2 ∷ 3 ∷ 4 ∷ []) ∷ []) (6 ∷ 6 ∷ 1 ∷ 1 ∷ 9 ∷ 2 ∷ 3 ∷ 4 ∷ [])
     (Accepted, 3 ∷ 4 ∷ 2 ∷ [], 7, 1, negsuc 70)
     ∷ kept 2 (1 ∷ 1 ∷ 9 ∷ 2 ∷ 3 ∷ 4 ∷ []) 3
     ∷ cutting 2 (9 ∷ 1 ∷ 9 ∷ 2 ∷ 3 ∷ []) (3 ∷ [], 2)

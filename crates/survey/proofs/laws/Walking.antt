@@ -13,7 +13,7 @@ use Rattle.refusal.specs.declared.Refusal.{Refusal}
 use Rattle.refusal.specs.declared.Refusal.the-variants.{Accepted, RecipeFull, DirectoryFull, PoolFull}
 use Rattle.chunker.specs.Chunks.{total}
 use Rattle.store.specs.Contents.{has, gain, grown, added}
-use Rattle.marks.proofs.laws.Marking.{total-append}
+use Rattle.store.proofs.laws.contents.Additions.{total-append}
 use Rattle.survey.specs.Walk.{Room, Walk, chunkGround, walk}
 
 module _ (room : Room) where

@@ -2,25 +2,14 @@
 use Prim.Native.Nat.{ℕ, _+_}
 use mathlib.Core.List.{List, []}
 use lib.ListN.{length}
-use Rattle.chunker.specs.Chunks.{chunks, total}
-use Rattle.directory.specs.Entry.{entries}
+use Rattle.chunker.specs.Chunks.{total}
 use Rattle.store.specs.declared.Head.{Head}
 use Rattle.store.specs.Contents.{added, repeated}
 use Rattle.store.specs.Memory.{contents}
 use Rattle.marks.specs.Marks.{marks}
 use Rattle.survey.specs.declared.Progress.{Progress}
-use Rattle.survey.specs.Walk.{Room, Walk, walk, noted}
+use Rattle.survey.specs.Walk.{Walk, jobWalk, noted}
 use Rattle.survey.specs.internal.Snapshot.{Snapshot, snapshot, Outcome, ends}
-
--- the room in lent memory
-abbrev pub roomIn : List ℕ → List ℕ → List ℕ → Room
-roomIn pool directory recipe =
-    record { places = length recipe; entries = entries directory; bytes = length pool }
-
--- the walk over a job's chunks
-abbrev pub jobWalk : Head → List ℕ → List ℕ → List ℕ → List ℕ → Walk
-jobWalk head pool directory recipe job =
-    walk (roomIn pool directory recipe) 0 (contents pool directory (head .chunks .0)) (chunks (head .window) job)
 
 -- what is counted after so many chunks, of which some are new and the others repeated
 abbrev pub progressWith : Head → ℕ → List (List ℕ) → List (List ℕ) → Progress

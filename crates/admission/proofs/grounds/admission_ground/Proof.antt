@@ -3,7 +3,7 @@ use mathlib.Core.Path.{sym, _∙_}
 use borrow.Author.Needs.{needs}
 use borrow.Author.Tests.{not-true, not-false}
 use Rattle.store.specs.Grounds.{storeGround}
-use Rattle.admission.specs.Admission.{admissionGround}
+use Rattle.admission.specs.Grounds.{admissionGround}
 use Rattle.admission.proofs.grounds.admission_ground.Statement.{statement}
 use Rattle.admission.proofs.grounds.admission_ground.Tie as tie
 

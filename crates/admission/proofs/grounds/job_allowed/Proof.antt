@@ -1,6 +1,6 @@
 -- `admission::grounds::job_allowed` meets its contract.
 use borrow.Author.Tests.{le-leb, lt-leb}
-use Rattle.admission.specs.Admission.{jobAllowed}
+use Rattle.admission.specs.Grounds.{jobAllowed}
 use Rattle.admission.proofs.grounds.job_allowed.Statement.{statement}
 use Rattle.admission.proofs.grounds.job_allowed.Tie as tie
 

@@ -1,4 +1,4 @@
--- The grounds that an admission tests before its first chunk, test by test.
+-- The grounds that a quote or a take tests before the job's first chunk, test by test.
 use Prim.Native.Nat.{ℕ}
 use mathlib.Core.Path.{_≡_, refl}
 use mathlib.Core.Bool.{true}
@@ -9,7 +9,7 @@ use Rattle.refusal.proofs.laws.Grounds.{none-holds, passed}
 use Rattle.chunker.specs.Scanner.{windowAllowed, windowGround}
 use Rattle.store.specs.declared.Head.{Head}
 use Rattle.store.specs.Grounds.{fits, memoryAllowed, recipeAllowed, memoryGround, recipeGround, headGround}
-use Rattle.admission.specs.Admission.{jobAllowed, jobGround, admissionGround}
+use Rattle.admission.specs.Grounds.{jobAllowed, jobGround, admissionGround}
 
 -- none of the grounds 1 and 3 to 5 holds
 pub record Passed (head : Head) (pool directory recipe job : List ℕ) : Type 0 where

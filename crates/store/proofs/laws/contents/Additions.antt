@@ -8,7 +8,7 @@ use lib.ListN.{length, length-append}
 use Rattle.chunker.specs.Chunks.{total}
 use Rattle.store.specs.Contents.{number, has, gain, grown, added, repeated, numbers, gained}
 use Rattle.store.proofs.laws.contents.Numbering.{number-added, number-next}
-use Rattle.store.proofs.laws.contents.Growth.{first-among, grown-has, number-grown}
+use Rattle.store.proofs.laws.contents.Growth.{Among, among-each, first-among, grown-none, grown-has, number-grown}
 
 -- chunks that come one list after the other: the new ones, the repeated ones and the numbers of each list
 module _ (ys : List (List ℕ)) where
@@ -59,18 +59,6 @@ grown-added held (c ∷ cs) =
 pub length-grown : (held cs : List (List ℕ)) → length (grown held cs) ≡ length held + length (added held cs)
 length-grown held cs = ap length (grown-added held cs) ∙ length-append held (added held cs)
 
--- the bytes of the new chunks are those that are gained
-pub total-added : (held cs : List (List ℕ)) → total (added held cs) ≡ gained held cs
-unfolding added gained
-total-added held [] = refl
-total-added held (c ∷ cs) =
-    let later = total-added (gain held c) cs in
-    elim (has held c) as (λ t. total (cond t (added (gain held c) cs) (c ∷ added (gain held c) cs))
-    ≡ cond t 0 (length c) + gained (gain held c) cs) [
-      | true ↦ omega arith
-      | false ↦ omega arith
-    ]
-
 -- each chunk is new or repeated
 pub total-both : (held cs : List (List ℕ)) → total (added held cs) + total (repeated held cs) ≡ total cs
 unfolding added repeated
@@ -83,6 +71,26 @@ total-both held (c ∷ cs) =
       | true ↦ omega arith
       | false ↦ omega arith
     ]
+
+-- the bytes of chunks that follow others
+pub total-append : (xs ys : List (List ℕ)) → total (xs ++ ys) ≡ total xs + total ys
+total-append [] ys = omega arith
+total-append (x ∷ xs) ys = omega (arith, total-append xs ys)
+
+-- chunks that a store holds add none
+pub added-none : (held cs : List (List ℕ)) → Among cs held → added held cs ≡ []
+unfolding added gain
+added-none held [] a = refl
+added-none held (c ∷ cs) a =
+    let each = among-each held c cs a in
+    rw (each .0) (added-none held cs (each .1))
+
+-- where the first of some chunks are held, only those after them add bytes: some no more than their own, then the rest
+pub gained-past : (held xs ys zs : List (List ℕ)) → Among xs held
+    → gained held (xs ++ (ys ++ zs)) ≤ total ys + gained (grown held ys) zs
+gained-past held xs ys zs a =
+    rw (added-append (ys ++ zs) held xs, grown-none held xs a, added-none held xs a, added-append zs held ys)
+    (omega (arith, total-append (added held ys) (added (grown held ys) zs), total-both held ys))
 
 -- not more are new than come
 pub added-most : (held cs : List (List ℕ)) → length (added held cs) ≤ length cs

@@ -1,15 +1,14 @@
 -- The store as a list of chunks: what one chunk, and a job's chunks, add to it.
 use Prim.Native.Nat.{ℕ, zero, suc, _+_, _≤_, _<_}
 use native.Mathlib.Omega.{arith}
-use native.Mathlib.Nat.{add-assoc, zero-add, eq-or-lt-of-le}
+use native.Mathlib.Nat.{eq-or-lt-of-le}
 use mathlib.Core.Path.{_≡_, refl, ap, ap₂, sym, _∙_}
 use mathlib.Core.Logic.{⊎-elim}
 use mathlib.Core.Bool.{Bool, true, false, cond, _||_, or-true, or-false, or-assoc}
 use mathlib.Core.List.{List, [], _∷_, _++_, map, append-assoc, append-nil}
 use lib.ListN.{length, getD, length-append, List·getD-append}
 use lib.Seq.{getD-at}
-use Rattle.chunker.specs.Chunks.{total}
-use Rattle.store.specs.Contents.{same, number, has, Distinct, gain, grown, gained}
+use Rattle.store.specs.Contents.{same, number, has, Distinct, gain, grown}
 use Rattle.store.proofs.laws.contents.Sameness.{same-equal, same-itself}
 use Rattle.store.proofs.laws.contents.Numbering.{number-append, number-added}
 
@@ -76,12 +75,6 @@ unfolding grown
 grown-append held [] ys = refl
 grown-append held (x ∷ xs) ys = grown-append (gain held x) xs ys
 
--- and what they add sums up
-pub gained-append : (held xs ys : List (List ℕ)) → gained held (xs ++ ys) ≡ gained held xs + gained (grown held xs) ys
-unfolding grown gained
-gained-append held [] ys = sym (zero-add _)
-gained-append held (x ∷ xs) ys = rw (gained-append (gain held x) xs ys, add-assoc)
-
 -- chunks that a store holds do not change it
 pub grown-none : (held cs : List (List ℕ)) → Among cs held → grown held cs ≡ held
 unfolding grown gain
@@ -89,32 +82,6 @@ grown-none held [] a = refl
 grown-none held (c ∷ cs) a =
     let each = among-each held c cs a in
     rw (each .0) (grown-none held cs (each .1))
-
--- and add no bytes
-pub gained-none : (held cs : List (List ℕ)) → Among cs held → gained held cs ≡ 0
-unfolding gained gain
-gained-none held [] a = refl
-gained-none held (c ∷ cs) a =
-    let each = among-each held c cs a in
-    rw (each .0, gained-none held cs (each .1))
-
--- chunks add at most their own bytes
-pub gained-most : (held cs : List (List ℕ)) → gained held cs ≤ total cs
-unfolding gained
-gained-most held [] = omega arith
-gained-most held (c ∷ cs) =
-    let later = gained-most (gain held c) cs in
-    elim (has held c) as (λ t. cond t 0 (length c) + gained (gain held c) cs ≤ length c + total cs) [
-      | true ↦ omega arith
-      | false ↦ omega arith
-    ]
-
--- where the first of some chunks are held, only those after them add bytes: some no more than their own, then the rest
-pub gained-past : (held xs ys zs : List (List ℕ)) → Among xs held
-    → gained held (xs ++ (ys ++ zs)) ≤ total ys + gained (grown held ys) zs
-gained-past held xs ys zs a =
-    rw (gained-append held xs (ys ++ zs), grown-none held xs a, gained-none held xs a, gained-append held ys zs)
-    (omega (arith, gained-most held ys))
 
 -- a store grows at its end only, by one chunk
 pub gain-more : (held : List (List ℕ)) (c : List ℕ) → (more : List (List ℕ)) × (gain held c ≡ held ++ more)

@@ -21,17 +21,17 @@ use Rattle.store.proofs.laws.grounds.Fitting.{fits-facts}
 use Rattle.store.proofs.laws.grounds.Filled.{total-contents}
 use Rattle.store.proofs.laws.contents.Numbering.{number-below, number-next}
 use Rattle.store.proofs.laws.contents.Growth.{has-grown, grown-append}
-use Rattle.store.proofs.laws.contents.Additions.{added-append, repeated-append, grown-added, length-grown}
+use Rattle.store.proofs.laws.contents.Additions.{added-append, repeated-append, grown-added, length-grown, total-append}
 use Rattle.marks.specs.Marks.{repeatMark, firstMark, mark, marks, firsts}
 use Rattle.marks.proofs.laws.Positions.{starts-at}
-use Rattle.marks.proofs.laws.Marking.{length-marks, marks-last, total-append, Places}
+use Rattle.marks.proofs.laws.Marking.{length-marks, marks-last, Places}
 use Rattle.marks.proofs.laws.Appearing.{number-firsts}
 use Rattle.survey.specs.declared.Progress.{Progress}
 use Rattle.survey.specs.Walk as walk
-use Rattle.survey.specs.Walk.{noted}
+use Rattle.survey.specs.Walk.{roomIn, noted}
 use Rattle.survey.specs.internal.Snapshot.{Snapshot, snapshot, withRepeated, withNew, numberIn, placeIn, stored, met}
 use Rattle.survey.specs.internal.Snapshot.{chunkGround, markIn, afterChunk}
-use Rattle.survey.specs.internal.Surveyed.{roomIn, progressWith, progressAfter, surveyAfter}
+use Rattle.survey.specs.internal.Surveyed.{progressWith, progressAfter, surveyAfter}
 use Rattle.survey.specs.internal.Begun.{Begun}
 
 -- a chunk is among chunks where its number is below their count

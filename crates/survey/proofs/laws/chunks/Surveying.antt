@@ -21,14 +21,14 @@ use Rattle.store.specs.Memory.{contents}
 use Rattle.store.specs.internal.EntriesIn.{EntriesIn}
 use Rattle.store.proofs.laws.grounds.Fitting.{fits-facts, fits-entry}
 use Rattle.store.proofs.laws.contents.Growth.{grown-append}
-use Rattle.store.proofs.laws.contents.Additions.{length-grown, total-both}
+use Rattle.store.proofs.laws.contents.Additions.{length-grown, total-both, total-append}
 use Rattle.marks.specs.Marks.{marks}
-use Rattle.marks.proofs.laws.Marking.{length-marks, total-append}
+use Rattle.marks.proofs.laws.Marking.{length-marks}
 use Rattle.marks.proofs.laws.Appearing.{firsts-in}
-use Rattle.survey.specs.Walk.{Walk, walk, noted}
+use Rattle.survey.specs.Walk.{roomIn, jobWalk, noted}
 use Rattle.survey.specs.Walk as walk
 use Rattle.survey.specs.internal.Snapshot.{Snapshot, snapshot, Outcome, ends, chunkGround, afterChunk, chunkOutcome}
-use Rattle.survey.specs.internal.Surveyed.{roomIn, jobWalk, surveyAfter, surveyed}
+use Rattle.survey.specs.internal.Surveyed.{surveyAfter, surveyed}
 use Rattle.survey.specs.internal.Begun.{Begun}
 use Rattle.survey.specs.internal.Ready.{Ready}
 use Rattle.survey.proofs.laws.Walking.{walk-on, walk-stops, chunk-fits}

@@ -1,2 +1,0 @@
-pub mod AllChunks
-pub mod Admitting

@@ -1,3 +1,0 @@
-pub mod Writing
-pub mod OneChunk
-pub mod Steps
