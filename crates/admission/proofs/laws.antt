@@ -4,3 +4,4 @@ pub mod Surveyed
 pub mod Outcomes
 pub mod Asked
 pub mod Takes
+pub mod Refusals

@@ -1,2 +1,5 @@
 pub mod QuoteAndTake
+pub mod ChunkCount
+pub mod Room
+pub mod LeftAlone
 pub mod Saving

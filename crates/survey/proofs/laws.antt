@@ -1,3 +1,4 @@
 pub mod Steps
 pub mod Walking
+pub mod Room
 pub mod chunks

@@ -1,0 +1,81 @@
+-- On which of its grounds a quote is refused: one of 1 and 3 to 5, or one of 6 to 8 at a chunk.
+use Prim.Native.Nat.{ℕ, _≤_}
+use native.Mathlib.Omega.{arith}
+use mathlib.Core.Path.{_≡_, refl, sym, ap, _∙_}
+use mathlib.Core.Bool.{Bool, true, false, cond}
+use mathlib.Core.List.{List, [], _∷_}
+use lib.ListN.{length}
+use Rattle.refusal.specs.Number.{numberOf, accepted}
+use Rattle.refusal.specs.Grounds.{unless, first}
+use Rattle.refusal.specs.declared.Refusal.{Refusal}
+use Rattle.refusal.specs.declared.Refusal.the-variants.{Window, JobLength, MemoryLimit, Head as HeadMisfit}
+use Rattle.refusal.proofs.laws.NoGround.{no-ground}
+use Rattle.chunker.specs.Scanner.{windowAllowed}
+use Rattle.store.specs.declared.Head.{Head}
+use Rattle.store.specs.Memory.{contents}
+use Rattle.store.specs.Grounds.{memoryAllowed, recipeAllowed, fits}
+use Rattle.survey.specs.Walk.{Walk, jobWalk}
+use Rattle.admission.specs.declared.Quoted.{Quoted}
+use Rattle.admission.specs.Grounds.{jobAllowed, admissionGround}
+use Rattle.admission.specs.Quote.{counted, refused, walked, quoted}
+use Rattle.admission.proofs.laws.Outcomes.{quote-refused}
+
+-- the first of the five, by their tests
+by-tests : (window job recipe memory fitting : Bool)
+    → numberOf
+    (first
+    (unless window Window
+    ∷ unless job JobLength
+    ∷ unless recipe MemoryLimit
+    ∷ unless memory MemoryLimit
+    ∷ unless fitting HeadMisfit
+    ∷ []))
+    ≤ 5
+by-tests false job recipe memory fitting = omega arith
+by-tests true false recipe memory fitting = omega arith
+by-tests true true false memory fitting = omega arith
+by-tests true true true false fitting = omega arith
+by-tests true true true true false = omega arith
+by-tests true true true true true = omega arith
+
+-- what the walk gives is refused as the walk is
+walked-refusal : (held : List (List ℕ)) (jobLength : ℕ) (recipe : List ℕ) (whole : Walk)
+    → walked held jobLength recipe whole .answer .refusal ≡ whole .refusal
+walked-refusal held jobLength recipe whole = by-test (accepted (whole .refusal)) refl
+  where
+    by-test : (t : Bool) → accepted (whole .refusal) ≡ t
+        → cond {A = Quoted} t (counted jobLength held (whole .passed)) (refused (whole .refusal)) .refusal ≡ whole .refusal
+    by-test true h = sym (no-ground (whole .refusal) h)
+    by-test false h = refl
+
+module _ (head : Head) (pool directory recipe job : List ℕ) where
+  -- a ground before the first chunk is none of 6 to 8
+  pub ground-early : numberOf (admissionGround head pool directory recipe job) ≤ 5
+  unfolding admissionGround
+  ground-early =
+      by-tests (windowAllowed (head .window)) (jobAllowed job) (recipeAllowed recipe) (memoryAllowed pool directory)
+      (fits head pool directory)
+
+  -- where none of them holds, the quote is that of the walk
+  module _ (none : accepted (admissionGround head pool directory recipe job) ≡ true) where
+    pub quote-walks : quoted head pool directory recipe job
+        ≡ walked (contents pool directory (head .chunks .0)) (length job) recipe (jobWalk head pool directory recipe job)
+    unfolding quoted
+    quote-walks = rw none
+
+    -- and so is its refusal
+    pub quote-refusal : quoted head pool directory recipe job .answer .refusal ≡ jobWalk head pool directory recipe job .refusal
+    quote-refusal = rw quote-walks (walked-refusal _ (length job) recipe (jobWalk head pool directory recipe job))
+
+  -- a quote that is refused on one of 6 to 8 is refused by its walk
+  pub chunk-refused : (ground : Refusal) → 6 ≤ numberOf ground → quoted head pool directory recipe job .answer .refusal ≡ ground
+      → (accepted (admissionGround head pool directory recipe job) ≡ true)
+      × (jobWalk head pool directory recipe job .refusal ≡ ground)
+  chunk-refused ground late e = by-ground (accepted (admissionGround head pool directory recipe job)) refl
+    where
+      by-ground : (t : Bool) → accepted (admissionGround head pool directory recipe job) ≡ t
+          → (t ≡ true) × (jobWalk head pool directory recipe job .refusal ≡ ground)
+      by-ground true h = (refl, sym (quote-refusal h) ∙ e)
+      by-ground false h =
+          let same = ap (λ q. q .answer .refusal) (quote-refused head pool directory recipe job h) ∙ e in
+          absurd (omega (arith, ap numberOf same, ground-early, late))
