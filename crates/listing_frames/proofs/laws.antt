@@ -1,3 +1,2 @@
 pub mod chunks
-pub mod Quoted
 pub mod Listed

@@ -11,9 +11,9 @@ use Rattle.refusal.specs.Number.{accepted}
 use Rattle.store.specs.declared.Head.{Head}
 use Rattle.store.specs.Opening.{fresh}
 use Rattle.admission.specs.Quote.{Quotation}
-use Rattle.admission.specs.Take.{taken}
+use Rattle.admission.specs.Take.{quotationOf, taken}
 use Rattle.listing_frames.specs.Frames.{window, poolBytes, directoryNumbers, recipePlaces, outcome, admittedFrames, written, listed}
-use Rattle.listing_frames.proofs.laws.Quoted.{toldBy, taken-after}
+use Rattle.admission.proofs.theorems.QuoteAndTake.{taken-after}
 use Rattle.listing_frames.proofs.laws.Listed.{Accepts, accepts, fresh-head, long-listed, short-listed, all-stand}
 use Rattle.listing_frames.proofs.frames.Statement.{statement}
 use Rattle.listing_frames.proofs.frames.Tie as tie
@@ -103,9 +103,9 @@ stays c =
     let pool : List ℕ = replicate poolBytes 0 in
     let directory : List ℕ = replicate directoryNumbers 0 in
     let j = job (quote-of c) in
-    ap toldBy (c .take .ensures)
-    ∙ ap (λ (h : Head). toldBy (taken h pool directory (asked (quote-of c) .recipe) j)) (opens (quote-of c))
-    ∙ ap (λ (q : Quotation). toldBy (taken (fresh window) pool directory (q .recipe) j)) (came (quote-of c))
+    ap quotationOf (c .take .ensures)
+    ∙ ap (λ (h : Head). quotationOf (taken h pool directory (asked (quote-of c) .recipe) j)) (opens (quote-of c))
+    ∙ ap (λ (q : Quotation). quotationOf (taken (fresh window) pool directory (q .recipe) j)) (came (quote-of c))
     ∙ taken-after (fresh window) pool directory (replicate recipePlaces 0) j
 
 -- with the refusal that was tested

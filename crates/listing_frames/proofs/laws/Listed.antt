@@ -24,7 +24,8 @@ use Rattle.frame_text.specs.Frame.{frameBytes, lastFrame}
 use Rattle.listing_frames.specs.Frames.{window, longestJob, chunkFrames, refusedFrame, outcome, admittedFrames, listing, refusalOf, written, listed}
 use Rattle.listing_frames.specs.internal.Counted.{countedFrames}
 use Rattle.frame_text.proofs.laws.Stores.{sets-then, frame-length}
-use Rattle.listing_frames.proofs.laws.Quoted.{all-numbers}
+use Rattle.store.proofs.laws.contents.Additions.{numbers-after}
+use Rattle.admission.proofs.laws.Asked.{asked}
 use Rattle.listing_frames.proofs.laws.chunks.Walking.{counted-length}
 use Rattle.listing_frames.proofs.laws.chunks.NewChunks.{counted-first, counted-front}
 
@@ -48,7 +49,7 @@ module _ (pool directory recipe job : List ℕ) where
   accepts a same done =
       let cs = chunks window job in
       let told : recipeOf a ≡ numbers [] cs =
-      rw same (all-numbers (fresh window) pool directory recipe job (rw same at done)) in
+      rw same (asked (fresh window) pool directory recipe job (rw same at done) .recipe ∙ sym (numbers-after _ (chunks window job))) in
       let n = a .answer .«recipe_length» in
       let parts = take-append-drop n (a .recipe) in
       let many : length (recipeOf a) ≡ length cs = ap length told ∙ length-numbers [] cs in
