@@ -7,8 +7,7 @@ use mathlib.Core.List.{List, [], _∷_, _++_}
 use lib.Dec.{eqb}
 use lib.ListN.{length, take, drop, getD}
 use Rattle.chunker.specs.Chunks.{chunks}
-use Rattle.promises.specs.History as history
-use Rattle.promises.specs.History.{Event, quote, reading, eventAt}
+use Rattle.promises.specs.History.{Event, quoting, taking, reading, eventAt}
 use Rattle.promises.specs.FirstAppearances.{FirstAppearances}
 use Rattle.promises.specs.Saving.{jobSaving}
 use Rattle.promises.specs.Promise.{Promised}
@@ -39,16 +38,16 @@ toldBy t = record { refusal = t .refusal; recipe = t .recipe; counts = t .counts
 
 -- what a call leaves; hirunvel_store_quote, hirunvel_store_look and hirunvel_rebuild write none of it
 unfoldable pub leaves : Memory → Event → Memory
-leaves m (quote job recipe) = m
-leaves m (history.take job recipe) =
+leaves m (quoting job recipe) = m
+leaves m (taking job recipe) =
     let t = takeCall m job recipe in
     record { head = t .head; pool = t .pool; directory = t .directory }
 leaves m reading = m
 
 -- the chunks of a job whose take returns 0
 abbrev pub chunksOf : ℕ → Memory → Event → List (List ℕ)
-chunksOf w m (quote job recipe) = []
-chunksOf w m (history.take job recipe) = cond (eqb (takeCall m job recipe .refusal) 0) (chunks w job) []
+chunksOf w m (quoting job recipe) = []
+chunksOf w m (taking job recipe) = cond (eqb (takeCall m job recipe .refusal) 0) (chunks w job) []
 chunksOf w m reading = []
 
 module _ (m : Memory) (calls : List Event) where
@@ -64,12 +63,12 @@ module _ (m : Memory) (calls : List Event) where
 
 -- a call takes a job, and what it tells
 pub data TakesCall (m : Memory) : Event → List ℕ → StoreQuotation → Type 0 where
-  takesCall : {job recipe : List ℕ} → TakesCall m (history.take job recipe) job (toldBy (takeCall m job recipe))
+  takesCall : {job recipe : List ℕ} → TakesCall m (taking job recipe) job (toldBy (takeCall m job recipe))
 
 -- a call quotes a job or takes it, and what it tells
 pub data AsksCall (m : Memory) : Event → List ℕ → StoreQuotation → Type 0 where
-  quoteCalled : {job recipe : List ℕ} → AsksCall m (quote job recipe) job (quoteCall m job recipe)
-  takeCalled : {job recipe : List ℕ} → AsksCall m (history.take job recipe) job (toldBy (takeCall m job recipe))
+  quoteCalled : {job recipe : List ℕ} → AsksCall m (quoting job recipe) job (quoteCall m job recipe)
+  takeCalled : {job recipe : List ℕ} → AsksCall m (taking job recipe) job (toldBy (takeCall m job recipe))
 
 -- call i takes the job and returns 0
 pub record TakenCall (m : Memory) (calls : List Event) (i : ℕ) (job : List ℕ) (c : StoreQuotation) : Type 0 where

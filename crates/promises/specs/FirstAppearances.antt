@@ -6,7 +6,6 @@ use mathlib.Core.List.{List, [], _∷_, _++_}
 use lib.ListN.{length}
 use Rattle.chunker.specs.Chunks.{chunks, total}
 use Rattle.store.specs.Contents.{has}
-use Rattle.admission.specs.declared.Quoted.{Quoted}
 
 -- "a piece is thus new when no job accepted before, and no earlier place of this job, has it": those of a job's chunks, in their
 -- order, where `earlier` are the chunks of the jobs accepted before and of the earlier places of this job

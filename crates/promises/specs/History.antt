@@ -16,9 +16,9 @@ use Rattle.admission.specs.Take.{Taking, quotationOf, taken}
 
 pub data Event : Type 0 where
   -- a job is quoted, and lent memory for its recipe
-  quote : (job recipe : List ℕ) → Event
+  quoting : (job recipe : List ℕ) → Event
   -- a job is taken, and lent memory for its recipe
-  take : (job recipe : List ℕ) → Event
+  taking : (job recipe : List ℕ) → Event
   -- a look or a rebuilding, which writes neither head nor pool nor directory
   reading : Event
 
@@ -45,22 +45,22 @@ takeIn s job recipe = taken (s .head) (s .pool) (s .directory) recipe job
 
 -- the state that an event leaves; a quote writes only the recipe
 unfoldable pub leaves : State → Event → State
-leaves s (quote job recipe) = s
-leaves s (take job recipe) =
+leaves s (quoting job recipe) = s
+leaves s (taking job recipe) =
     let t = takeIn s job recipe in
     record { head = t .answer .head; pool = t .pool; directory = t .directory }
 leaves s reading = s
 
 -- "Only a take that reports no refusal makes a job accepted; a quote alone never does"
 abbrev pub accepts : State → Event → Bool
-accepts s (quote job recipe) = false
-accepts s (take job recipe) = accepted (takeIn s job recipe .answer .quoted .refusal)
+accepts s (quoting job recipe) = false
+accepts s (taking job recipe) = accepted (takeIn s job recipe .answer .quoted .refusal)
 accepts s reading = false
 
 -- the chunks of an event's job
 abbrev pub chunksOf : ℕ → Event → List (List ℕ)
-chunksOf w (quote job recipe) = chunks w job
-chunksOf w (take job recipe) = chunks w job
+chunksOf w (quoting job recipe) = chunks w job
+chunksOf w (taking job recipe) = chunks w job
 chunksOf w reading = []
 
 -- the event at a place of a list, counted from 0; past the end nothing is written
@@ -81,12 +81,12 @@ module _ (s : State) (events : List Event) where
 
 -- an event takes a job: what it answers, and how it leaves the recipe
 pub data Takes (s : State) : Event → List ℕ → Quotation → Type 0 where
-  takes : {job recipe : List ℕ} → Takes s (take job recipe) job (quotationOf (takeIn s job recipe))
+  takes : {job recipe : List ℕ} → Takes s (taking job recipe) job (quotationOf (takeIn s job recipe))
 
 -- an event asks for a job: it quotes it or takes it
 pub data Asks (s : State) : Event → List ℕ → Quotation → Type 0 where
-  byQuote : {job recipe : List ℕ} → Asks s (quote job recipe) job (quoteIn s job recipe)
-  byTake : {job recipe : List ℕ} → Asks s (take job recipe) job (quotationOf (takeIn s job recipe))
+  byQuote : {job recipe : List ℕ} → Asks s (quoting job recipe) job (quoteIn s job recipe)
+  byTake : {job recipe : List ℕ} → Asks s (taking job recipe) job (quotationOf (takeIn s job recipe))
 
 -- at place i of the list the job is taken, and not refused
 pub record TakenAt (s : State) (events : List Event) (i : ℕ) (job : List ℕ) (q : Quotation) : Type 0 where
@@ -100,8 +100,8 @@ pub record AskedAt (s : State) (events : List Event) (j : ℕ) (job : List ℕ) 
 
 -- "A job is a byte stream": the job of an event is
 abbrev pub BytesIn : Event → Type 0
-BytesIn (quote job recipe) = Bytes job
-BytesIn (take job recipe) = Bytes job
+BytesIn (quoting job recipe) = Bytes job
+BytesIn (taking job recipe) = Bytes job
 BytesIn reading = Unit {0}
 
 -- the job of every event is

@@ -20,7 +20,7 @@ use Rattle.admission.specs.Quote.{Quotation, recipeOf}
 use Rattle.admission.proofs.laws.Asked.{Asked, passed, asked, chunks-few}
 use Rattle.admission.proofs.laws.Takes.{adds, untouched}
 use Rattle.admission.proofs.theorems.QuoteAndTake.{same-quotation}
-use Rattle.promises.specs.History.{Event, quote, take, reading, State, start, holds, quoteIn, leaves, accepts, chunksOf, eventAt}
+use Rattle.promises.specs.History.{Event, quoting, taking, reading, State, start, holds, quoteIn, leaves, accepts, chunksOf, eventAt}
 use Rattle.promises.specs.History.{before, chunksBefore, Takes, takes, Asks, byQuote, byTake, TakenAt, AskedAt, BytesIn, AllBytes}
 
 -- the head fits pool and directory
@@ -55,17 +55,21 @@ grows-then s t u cs ds g h =
       directoryLength = h .directoryLength ∙ g .directoryLength;
     }
 
+-- states with the same head, pool and directory
+same-state : (s t : State) → t .head ≡ s .head → t .pool ≡ s .pool → t .directory ≡ s .directory → t ≡ s
+same-state s t h p d = rw (h, p, d)
+
 -- a take adds the chunks of its job, or nothing
 grows-take : (s : State) → Fitting s → (job recipe : List ℕ) → Bytes job
-    → Grows s (leaves s (take job recipe)) (addedChunks s (take job recipe))
+    → Grows s (leaves s (taking job recipe)) (addedChunks s (taking job recipe))
 unfolding leaves grown
-grows-take s f job recipe b = step (accepts s (take job recipe)) refl
+grows-take s f job recipe b = step (accepts s (taking job recipe)) refl
   where
-    same : accepts s (take job recipe) ≡ accepted (quoteIn s job recipe .answer .refusal)
+    same : accepts s (taking job recipe) ≡ accepted (quoteIn s job recipe .answer .refusal)
     same = ap (λ q. accepted (q .answer .refusal)) (same-quotation (s .head) (s .pool) (s .directory) recipe job)
 
-    step : (t : Bool) → accepts s (take job recipe) ≡ t
-        → Grows s (leaves s (take job recipe)) (cond t (chunks (s .head .window) job) [])
+    step : (t : Bool) → accepts s (taking job recipe) ≡ t
+        → Grows s (leaves s (taking job recipe)) (cond t (chunks (s .head .window) job) [])
     step true h =
         let a = adds (s .head) (s .pool) (s .directory) recipe job (sym same ∙ h) b in
         record {
@@ -77,13 +81,14 @@ grows-take s f job recipe b = step (accepts s (take job recipe)) refl
         }
     step false h =
         let u = untouched (s .head) (s .pool) (s .directory) recipe job (sym same ∙ h) in
-        rw (u .sameHead, u .samePool, u .sameDirectory) (grows-none s f)
+        let left = same-state s (leaves s (taking job recipe)) (u .sameHead) (u .samePool) (u .sameDirectory) in
+        rw left (grows-none s f)
 
 -- what each event adds
 grows-once : (s : State) → Fitting s → (e : Event) → BytesIn e → Grows s (leaves s e) (addedChunks s e)
 unfolding leaves
-grows-once s f (quote job recipe) b = grows-none s f
-grows-once s f (take job recipe) b = grows-take s f job recipe b
+grows-once s f (quoting job recipe) b = grows-none s f
+grows-once s f (taking job recipe) b = grows-take s f job recipe b
 grows-once s f reading b = grows-none s f
 
 -- the job of the event at each place is bytes

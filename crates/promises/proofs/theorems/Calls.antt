@@ -4,7 +4,6 @@ use native.Mathlib.Omega.{arith}
 use mathlib.Core.Path.{_≡_, refl, ap, ap₂, sym, _∙_, subst}
 use mathlib.Core.Bool.{Bool, true, false, cond}
 use mathlib.Core.List.{List, [], _∷_, _++_}
-use lib.Dec.{eqb}
 use lib.ListN.{length}
 use borrow.Author.Tests.{eq-eqb}
 use Rattle.refusal.specs.Number.{numberOf, accepted}
@@ -15,7 +14,7 @@ use Rattle.admission.specs.Quote.{Quotation}
 use Rattle.admission.proofs.laws.Takes.{untouched}
 use Rattle.admission.proofs.theorems.QuoteAndTake.{same-quotation}
 use Rattle.promises.specs.History as history
-use Rattle.promises.specs.History.{Event, quote, take, reading, State, start, eventAt, quoteIn, Takes, takes, Asks, byQuote, byTake}
+use Rattle.promises.specs.History.{Event, quoting, taking, reading, State, start, eventAt, quoteIn, Takes, takes, Asks, byQuote, byTake}
 use Rattle.promises.specs.History.{TakenAt, AskedAt, AllBytes}
 use Rattle.promises.proofs.laws.Fields.{old-joined, revision-joined}
 use Rattle.promises.specs.Fields.{Field, oldJob, revision, AllKept, ceilingOf, joined}
@@ -60,15 +59,15 @@ asks-called takeCalled = (_, byTake, refl)
 -- a call leaves what the event leaves: "the head written is the head handed back"
 call-leaves : (s : State) → (e : Event) → leaves (memoryOf s) e ≡ memoryOf (history.leaves s e)
 unfolding leaves history.leaves storeTaken
-call-leaves s (quote job recipe) = refl
+call-leaves s (quoting job recipe) = refl
 call-leaves s reading = refl
-call-leaves s (take job recipe) = by-test (history.accepts s (take job recipe)) refl
+call-leaves s (taking job recipe) = by-test (history.accepts s (taking job recipe)) refl
   where
-    same : history.accepts s (take job recipe) ≡ accepted (quoteIn s job recipe .answer .refusal)
+    same : history.accepts s (taking job recipe) ≡ accepted (quoteIn s job recipe .answer .refusal)
     same = ap (λ q. accepted (q .answer .refusal)) (same-quotation (s .head) (s .pool) (s .directory) recipe job)
 
-    by-test : (t : Bool) → history.accepts s (take job recipe) ≡ t
-        → leaves (memoryOf s) (take job recipe) ≡ memoryOf (history.leaves s (take job recipe))
+    by-test : (t : Bool) → history.accepts s (taking job recipe) ≡ t
+        → leaves (memoryOf s) (taking job recipe) ≡ memoryOf (history.leaves s (taking job recipe))
     by-test true h = rw h
     by-test false h = rw (h, untouched (s .head) (s .pool) (s .directory) recipe job (sym same ∙ h) .sameHead)
 
@@ -115,8 +114,8 @@ module _ (w : ℕ) (allowed : storeOpened w .refusal ≡ 0) (pool directory : Li
   call-chunks : (t : State) (e : Event)
       → chunksOf w (memoryOf t) e ≡ cond (history.accepts t e) (history.chunksOf w e) []
   unfolding storeTaken
-  call-chunks t (quote job recipe) = refl
-  call-chunks t (take job recipe) = refl
+  call-chunks t (quoting job recipe) = refl
+  call-chunks t (taking job recipe) = refl
   call-chunks t reading = refl
 
   -- the jobs that earlier calls took are those accepted before

@@ -8,7 +8,7 @@ use mathlib.Core.List.{List, [], _∷_}
 use lib.ListN.{length, replicate}
 use Rattle.admission.specs.Quote.{Quotation}
 use Rattle.admission.specs.Take.{quotationOf}
-use Rattle.promises.specs.History.{Event, take, start, takeIn, before, takes, byTake}
+use Rattle.promises.specs.History.{Event, taking, start, takeIn, before, takes, byTake}
 use Rattle.promises.specs.Fields.{Field, oldJob, revision, ceilingOf}
 use Rattle.promises.proofs.theorems.SeveralFields.{several-fields}
 use Rattle.promises.proofs.theorems.StarredJobs.{rising, handed, counts, kept-maximum}
@@ -102,9 +102,9 @@ dateAndAddress =
 -- the label, its revision, and the revision again
 abbrev pub labels : List Event
 labels =
-    take (oldJob opening dateAndAddress) (replicate 40 0)
-    ∷ take (revision opening dateAndAddress) (replicate 40 0)
-    ∷ take (revision opening dateAndAddress) (replicate 40 0)
+    taking (oldJob opening dateAndAddress) (replicate 40 0)
+    ∷ taking (revision opening dateAndAddress) (replicate 40 0)
+    ∷ taking (revision opening dateAndAddress) (replicate 40 0)
     ∷ []
 
 -- what is told of each

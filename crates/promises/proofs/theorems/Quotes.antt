@@ -4,7 +4,7 @@ use mathlib.Core.Path.{_≡_, ap, sym}
 use mathlib.Core.List.{List}
 use Rattle.admission.specs.Take.{quotationOf}
 use Rattle.admission.proofs.theorems.QuoteAndTake.{same-quotation}
-use Rattle.promises.specs.History.{Event, quote, State, quoteIn, takeIn, leaves, eventAt, before}
+use Rattle.promises.specs.History.{Event, quoting, State, quoteIn, takeIn, leaves, eventAt, before}
 
 -- "On the same inputs a quote and a take give equal lengths and counts, 0 if refused, equal recipes and the same refusal": at
 -- each place of a list
@@ -15,7 +15,7 @@ quote-tells s events j job recipe =
     sym (same-quotation (t .head) (t .pool) (t .directory) recipe job)
 
 -- "while writing only the recipe"
-pub quote-leaves : (s : State) (events : List Event) (j : ℕ) (job recipe : List ℕ) → eventAt events j ≡ quote job recipe
+pub quote-leaves : (s : State) (events : List Event) (j : ℕ) (job recipe : List ℕ) → eventAt events j ≡ quoting job recipe
     → before s events (suc j) ≡ before s events j
 unfolding before leaves
 quote-leaves s events j job recipe stands = ap (leaves (before s events j)) stands

@@ -25,7 +25,7 @@ use Rattle.survey.specs.Walk.{chunkGround, walk}
 use Rattle.admission.specs.Grounds.{jobAllowed, admissionGround}
 use Rattle.admission.specs.Quote.{quoted, recipeOf}
 use Rattle.admission.specs.Take.{quotationOf, taken}
-use Rattle.promises.specs.History.{Event, take, State, start, takeIn, leaves, before}
+use Rattle.promises.specs.History.{Event, taking, State, start, takeIn, leaves, before}
 
 -- n numbers, counting up from b
 abbrev pub risingFrom : ℕ → ℕ → List ℕ
@@ -43,7 +43,7 @@ lengths w job = (map length (cutChunks (fresh w) [] job), length (remaining (fre
 
 -- the take of a job with a lent recipe of 8 numbers
 abbrev pub handed : List ℕ → Event
-handed job = take job (replicate 8 0)
+handed job = taking job (replicate 8 0)
 
 -- a fresh store with a pool of 32 bytes and 8 directory entries, after the takes of jobs
 abbrev pub storeAfter : ℕ → List (List ℕ) → State
@@ -64,7 +64,7 @@ pub data Row : Type 0 where
   -- the lengths of the chunks of a job
   cutting : (w : ℕ) (job : List ℕ) (expected : List ℕ × ℕ) → Row
   -- the counts of a job that comes after others
-  taking : (w : ℕ) (jobs : List (List ℕ)) (job : List ℕ) (expected : Refusal × List ℕ × ℕ × ℕ × ℤ) → Row
+  counting : (w : ℕ) (jobs : List (List ℕ)) (job : List ℕ) (expected : Refusal × List ℕ × ℕ × ℕ × ℤ) → Row
   -- place p is the first maximum point of a chunk, by the published method
   peaking : (w : ℕ) (chunk : List ℕ) (p : ℕ) → Row
   -- place k of an ending is one from which jobs line up
@@ -74,7 +74,7 @@ pub data Row : Type 0 where
 
 abbrev pub Holds : Row → Type 0
 Holds (cutting w job expected) = lengths w job ≡ expected
-Holds (taking w jobs job expected) = counts w jobs job ≡ expected
+Holds (counting w jobs job expected) = counts w jobs job ≡ expected
 Holds (peaking w chunk p) = FirstMaximumPoint w chunk p
 Holds (kept w ending k) = KeptMaximum w ending k
 Holds (notKept w ending k) = KeptMaximum w ending k → ⊥
@@ -95,10 +95,10 @@ rows =
     ∷ cutting 2 (1 ∷ 2 ∷ 3 ∷ 4 ∷ []) ([], 4)
     ∷ cutting 1 rising ([], 256)
     ∷ cutting 1 (rising ++ (0 ∷ [])) (257 ∷ [], 0)
-    ∷ taking 2 [] (3 ∷ 1 ∷ 2 ∷ 3 ∷ 1 ∷ 2 ∷ 7 ∷ []) (Accepted, 0 ∷ 0 ∷ 1 ∷ [], 4, 3, negsuc 68)
-    ∷ taking 2 [] (9 ∷ []) (Accepted, 0 ∷ [], 1, 0, negsuc 71)
-    ∷ taking 2 [] (5 ∷ 1 ∷ 1 ∷ 9 ∷ 2 ∷ 3 ∷ 4 ∷ []) (Accepted, 0 ∷ 1 ∷ 2 ∷ [], 7, 0, negsuc 71)
-    ∷ taking 2 ((5 ∷ 1 ∷ 1 ∷ 9 ∷ 2 ∷ 3 ∷ 4 ∷ []) ∷ []) (6 ∷ 6 ∷ 1 ∷ 1 ∷ 9 ∷ 2 ∷ 3 ∷ 4 ∷ [])
+    ∷ counting 2 [] (3 ∷ 1 ∷ 2 ∷ 3 ∷ 1 ∷ 2 ∷ 7 ∷ []) (Accepted, 0 ∷ 0 ∷ 1 ∷ [], 4, 3, negsuc 68)
+    ∷ counting 2 [] (9 ∷ []) (Accepted, 0 ∷ [], 1, 0, negsuc 71)
+    ∷ counting 2 [] (5 ∷ 1 ∷ 1 ∷ 9 ∷ 2 ∷ 3 ∷ 4 ∷ []) (Accepted, 0 ∷ 1 ∷ 2 ∷ [], 7, 0, negsuc 71)
+    ∷ counting 2 ((5 ∷ 1 ∷ 1 ∷ 9 ∷ 2 ∷ 3 ∷ 4 ∷ []) ∷ []) (6 ∷ 6 ∷ 1 ∷ 1 ∷ 9 ∷ 2 ∷ 3 ∷ 4 ∷ [])
     (Accepted, 3 ∷ 4 ∷ 2 ∷ [], 7, 1, negsuc 70)
     ∷ kept 2 (1 ∷ 1 ∷ 9 ∷ 2 ∷ 3 ∷ 4 ∷ []) 3
     ∷ cutting 2 (9 ∷ 1 ∷ 9 ∷ 2 ∷ 3 ∷ []) (3 ∷ [], 2)

@@ -10,7 +10,7 @@ use borrow.Author.Tests.{leb-true}
 use Rattle.chunker.specs.Bytes.{Bytes}
 use Rattle.admission.specs.Quote.{Quotation, recipeOf}
 use Rattle.admission.specs.Take.{quotationOf}
-use Rattle.promises.specs.History.{Event, quote, State, start, quoteIn, takeIn, before, TakenAt, AskedAt, AllBytes}
+use Rattle.promises.specs.History.{Event, quoting, State, start, quoteIn, takeIn, before, TakenAt, AskedAt, AllBytes}
 use Rattle.promises.specs.History.{takes, byQuote, byTake}
 use Rattle.promises.specs.Fields.{Field, oldJob, revision, AllKept}
 use Rattle.promises.specs.Promise.{PromisedOf}
@@ -42,7 +42,7 @@ abbrev pub newLabel : List ℕ
 newLabel = 6 ∷ 6 ∷ 1 ∷ 1 ∷ 9 ∷ 2 ∷ 3 ∷ 4 ∷ []
 
 abbrev pub pair : List Event
-pair = handed oldLabel ∷ quote newLabel (replicate 8 0) ∷ handed newLabel ∷ []
+pair = handed oldLabel ∷ quoting newLabel (replicate 8 0) ∷ handed newLabel ∷ []
 
 -- and the field that it changes
 abbrev pub pairField : Field
@@ -114,7 +114,7 @@ bytes-below (b ∷ bs) e =
 
 -- the same beginning 00 to FF and ending 01 02 00, first with nothing between them and then with 03, which is only quoted
 abbrev pub tightPair : List Event
-tightPair = handed (rising ++ (1 ∷ 2 ∷ 0 ∷ [])) ∷ quote (rising ++ (3 ∷ 1 ∷ 2 ∷ 0 ∷ [])) (replicate 8 0) ∷ []
+tightPair = handed (rising ++ (1 ∷ 2 ∷ 0 ∷ [])) ∷ quoting (rising ++ (3 ∷ 1 ∷ 2 ∷ 0 ∷ [])) (replicate 8 0) ∷ []
 
 -- the field between them
 abbrev pub tightField : Field
@@ -152,7 +152,7 @@ tight = refl
 
 -- what the premise that the old job was taken is for: the first of these jobs is only quoted
 abbrev pub onlyQuoted : List Event
-onlyQuoted = quote (rising ++ (0 ∷ rising ++ (1 ∷ 2 ∷ 0 ∷ []))) (replicate 8 0) ∷ []
+onlyQuoted = quoting (rising ++ (0 ∷ rising ++ (1 ∷ 2 ∷ 0 ∷ []))) (replicate 8 0) ∷ []
 
 -- so its revision, which is longer than the ceiling, is charged whole
 pub only-quoted :
