@@ -2,12 +2,11 @@
 use Prim.Native.Nat.{ℕ, _+_, _≤_}
 use native.Mathlib.Omega.{arith}
 use mathlib.Core.Path.{_≡_, refl, sym, ap, _∙_}
-use mathlib.Core.Bool.{Bool, true, false, false≢true}
+use mathlib.Core.Bool.{Bool, true, false}
 use mathlib.Core.List.{List, map}
 use lib.ListN.{length}
 use lib.Seq.{take-at}
 use Rattle.refusal.specs.Number.{accepted}
-use Rattle.chunker.specs.Scanner.{windowAllowed}
 use Rattle.chunker.specs.Chunks.{chunks, total}
 use Rattle.store.specs.declared.Head.{Head}
 use Rattle.store.specs.Contents.{number, grown, added, repeated, numbers}

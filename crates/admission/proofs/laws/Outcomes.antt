@@ -1,13 +1,10 @@
 -- What a quote and a take come to, by the tests in the order in which the code makes them.
 use Prim.Native.Nat.{ℕ, _+_, _^_, _≤_, _<_}
-use mathlib.Core.Path.{_≡_, refl, sym, ap, ap₂, _∙_}
-use mathlib.Core.Bool.{true, false, cond}
+use mathlib.Core.Path.{_≡_, ap, _∙_}
+use mathlib.Core.Bool.{true, false}
 use mathlib.Core.List.{List, [], _++_}
 use lib.ListN.{length, take, drop}
 use Rattle.refusal.specs.Number.{accepted}
-use Rattle.refusal.specs.declared.Refusal.{Refusal}
-use Rattle.refusal.specs.declared.Refusal.the-variants.{Accepted}
-use Rattle.refusal.proofs.laws.NoGround.{no-ground}
 use Rattle.store.specs.declared.Head.{Head}
 use Rattle.store.specs.Contents.{added}
 use Rattle.store.specs.Memory.{contents}
@@ -20,11 +17,10 @@ use Rattle.survey.specs.internal.Snapshot.{Snapshot, Outcome, ends}
 use Rattle.survey.specs.internal.Surveyed.{progressAfter, surveyAfter}
 use Rattle.survey.specs.internal.Begun.{Begun}
 use Rattle.admission.specs.Grounds.{admissionGround}
-use Rattle.admission.specs.Quote.{Quotation, refused, walked, quoted}
+use Rattle.admission.specs.Quote.{Quotation, refused, quoted}
 use Rattle.admission.specs.Take.{Taking, newOf, stores, taken}
-use Rattle.admission.specs.declared.Taken.{Taken}
 use Rattle.admission.specs.internal.Answers.{answered, headAfter}
-use Rattle.admission.proofs.laws.grounds.Passed.{Passed, all-passed}
+use Rattle.admission.proofs.laws.grounds.Passed.{all-passed}
 use Rattle.admission.proofs.laws.Surveyed as surveyed
 use Rattle.admission.proofs.laws.Surveyed.{begun, settled-recipe}
 

@@ -1,8 +1,8 @@
 -- What a survey of a job leaves: marks that come to the numbers of the chunks which it passed, and, where it refused none, say
 -- which chunks are new.
-use Prim.Native.Nat.{ℕ, _+_, _*_, _^_, _≤_, _<_}
+use Prim.Native.Nat.{ℕ, _+_, _^_, _≤_, _<_}
 use native.Mathlib.Omega.{arith}
-use mathlib.Core.Path.{_≡_, refl, sym, ap, ap₂, _∙_}
+use mathlib.Core.Path.{_≡_, sym, ap, ap₂, _∙_}
 use mathlib.Core.Bool.{true, and-eq-true-iff}
 use mathlib.Core.List.{List, [], _++_, append-nil}
 use lib.ListN.{length, take, drop}
@@ -10,7 +10,7 @@ use lib.Seq.{take-at, drop-at}
 use borrow.Author.Tests.{leb-true}
 use Rattle.refusal.specs.Number.{accepted}
 use Rattle.chunker.specs.Chunks.{chunks, total}
-use Rattle.directory.specs.Entry.{entries, stride}
+use Rattle.directory.specs.Entry.{entries}
 use Rattle.store.specs.declared.Head.{Head}
 use Rattle.store.specs.Contents.{grown, added, numbers}
 use Rattle.store.specs.Grounds.{memoryAllowed, recipeAllowed}

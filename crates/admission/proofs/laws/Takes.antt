@@ -1,9 +1,8 @@
 -- What a take does to the store as a list of chunks.
 use Prim.Native.Nat.{ℕ, _+_, _≤_}
-use native.Mathlib.Omega.{arith}
-use mathlib.Core.Path.{_≡_, refl, sym, ap, _∙_}
+use mathlib.Core.Path.{_≡_, refl, sym, _∙_}
 use mathlib.Core.Bool.{true, false}
-use mathlib.Core.List.{List, _∷_, [], _++_}
+use mathlib.Core.List.{List}
 use lib.ListN.{length}
 use Rattle.refusal.specs.Number.{accepted}
 use Rattle.chunker.specs.Bytes.{Bytes}
@@ -11,14 +10,13 @@ use Rattle.chunker.specs.Chunks.{chunks, total}
 use Rattle.chunker.proofs.laws.ground.Soundness.{window-bounds}
 use Rattle.directory.specs.Entry.{entries}
 use Rattle.store.specs.declared.Head.{Head}
-use Rattle.store.specs.Contents.{grown, added}
+use Rattle.store.specs.Contents.{grown}
 use Rattle.store.specs.Grounds.{fits}
 use Rattle.store.specs.Memory.{contents}
 use Rattle.store.proofs.laws.contents.Additions.{grown-added}
-use Rattle.storing.proofs.laws.Adding.{Allowed, adding-lengths, adding-fits, adding-holds}
-use Rattle.survey.specs.Walk.{jobWalk}
+use Rattle.storing.proofs.laws.Adding.{adding-lengths, adding-fits, adding-holds}
 use Rattle.admission.specs.Quote.{quoted}
-use Rattle.admission.specs.Take.{Taking, newOf, stores, refuses, taken}
+use Rattle.admission.specs.Take.{Taking, newOf, stores, taken}
 use Rattle.admission.proofs.laws.Chunks.{chunks-allowed, added-allowed}
 use Rattle.admission.proofs.laws.Surveyed as surveyed
 use Rattle.admission.proofs.laws.Surveyed.{begun}

@@ -3,13 +3,12 @@ use Prim.Native.Nat.{ℕ, suc, _+_, _-_, _/_, _%_, _≤_, _<_}
 use native.Mathlib.Omega.{arith}
 use native.Mathlib.Nat.{zero-add}
 use mathlib.Core.Path.{_≡_, refl, sym, ap, _∙_}
-use mathlib.Core.Bool.{Bool, true, false, cond, _||_, true≢false}
+use mathlib.Core.Bool.{Bool, true, false, cond, true≢false}
 use mathlib.Core.List.{List, [], _∷_, _++_}
-use lib.Dec.{ltb}
 use lib.ListN.{length, getD, List·getD-append}
 use borrow.Author.Tests.{lt-ltb, le-ltb}
 use Rattle.store.specs.Contents.{same, number, has}
-use Rattle.store.proofs.laws.contents.Sameness.{same-equal, same-itself}
+use Rattle.store.proofs.laws.contents.Sameness.{same-equal}
 use Rattle.store.proofs.laws.contents.Growth.{has-append}
 use Rattle.marks.specs.Marks.{repeatBase, firstBase, keyOf, mark, marks, chunkFrom, firstAt, firsts}
 use Rattle.marks.proofs.laws.Positions.{StartsAt}

@@ -1,18 +1,17 @@
 -- What the marks of a job's chunks are, place by place.
-use Prim.Native.Nat.{ℕ, zero, suc, _+_, _*_, _-_, _/_, _%_, _≤_, _<_}
+use Prim.Native.Nat.{ℕ, zero, suc, _+_, _-_, _/_, _%_, _≤_, _<_}
 use native.Mathlib.Omega.{arith}
 use mathlib.Core.Path.{_≡_, refl, sym, ap, _∙_}
 use mathlib.Core.Bool.{Bool, true, false, cond}
 use mathlib.Core.List.{List, [], _∷_, _++_, append-assoc, append-nil}
-use lib.ListN.{length, getD, take, drop, length-append, length-take, take-append-drop}
+use lib.ListN.{length, getD, length-append}
 use Rattle.chunker.specs.Scanner.{windowAllowed}
 use Rattle.chunker.specs.Chunks.{chunks, total}
 use Rattle.store.specs.Limits.{recipeLimit, jobLimit}
 use Rattle.store.specs.Contents.{number, has}
 use Rattle.store.proofs.laws.contents.Numbering.{number-below}
 use Rattle.store.proofs.laws.contents.Additions.{total-append}
-use Rattle.marks.specs.Marks.{repeatBase, repeatMark, firstBase, keyOf, firstMark, mark, marks, chunkFrom}
-use Rattle.marks.specs.internal.Places.{HasKey, FirstsIn, NamesEarlier}
+use Rattle.marks.specs.Marks.{repeatBase, repeatMark, firstBase, keyOf, firstMark, mark, marks}
 use Rattle.marks.proofs.laws.Positions.{StartsAt, starts-at}
 
 -- one mark for each chunk

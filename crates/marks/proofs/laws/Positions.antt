@@ -1,7 +1,7 @@
 -- Where the chunks of a job start in it.
 use Prim.Native.Nat.{ℕ, _+_, _≤_}
 use native.Mathlib.Omega.{arith}
-use mathlib.Core.Path.{_≡_, refl, sym, ap, _∙_}
+use mathlib.Core.Path.{_≡_, sym, ap, _∙_}
 use mathlib.Core.Bool.{true}
 use mathlib.Core.List.{List, [], _∷_, _++_}
 use lib.ListN.{length, take, drop, getD, length-take, length-drop}
@@ -10,7 +10,7 @@ use Rattle.scan.specs.Scanner.{fresh}
 use Rattle.chunker.specs.Scanner.{windowAllowed}
 use Rattle.chunker.specs.Answers.{fed}
 use Rattle.chunker.specs.Chunks.{chunks, total}
-use Rattle.chunker.proofs.laws.NextChunk.{NextChunk, no-chunks, next-chunk}
+use Rattle.chunker.proofs.laws.NextChunk.{no-chunks, next-chunk}
 use Rattle.marks.specs.Marks.{chunkFrom}
 
 -- the chunk c starts at a position of the job

@@ -9,10 +9,9 @@ use lib.ListN.{length, length-append}
 use borrow.Author.Tests.{ltb-true, leb-true}
 use Rattle.refusal.specs.Number.{accepted}
 use Rattle.refusal.specs.Grounds.{unless, first}
-use Rattle.refusal.specs.declared.Refusal.{Refusal}
-use Rattle.refusal.specs.declared.Refusal.the-variants.{Accepted, RecipeFull, DirectoryFull, PoolFull}
+use Rattle.refusal.specs.declared.Refusal.the-variants.{RecipeFull, DirectoryFull, PoolFull}
 use Rattle.chunker.specs.Chunks.{total}
-use Rattle.store.specs.Contents.{has, gain, grown, added}
+use Rattle.store.specs.Contents.{has, gain, grown}
 use Rattle.store.proofs.laws.contents.Additions.{total-append}
 use Rattle.survey.specs.Walk.{Room, Walk, chunkGround, walk}
 

@@ -8,7 +8,7 @@ use Rattle.store.specs.Contents.{added, repeated}
 use Rattle.store.specs.Memory.{contents}
 use Rattle.marks.specs.Marks.{marks}
 use Rattle.survey.specs.declared.Progress.{Progress}
-use Rattle.survey.specs.Walk.{Walk, jobWalk, noted}
+use Rattle.survey.specs.Walk.{jobWalk, noted}
 use Rattle.survey.specs.internal.Snapshot.{Snapshot, snapshot, Outcome, ends}
 
 -- what is counted after so many chunks, of which some are new and the others repeated

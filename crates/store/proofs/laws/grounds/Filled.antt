@@ -6,7 +6,7 @@ use mathlib.Core.Bool.{true}
 use mathlib.Core.List.{List}
 use lib.ListN.{length}
 use Rattle.chunker.specs.Chunks.{total}
-use Rattle.directory.specs.Entry.{offsetAt, lengthAt}
+use Rattle.directory.specs.Entry.{lengthAt}
 use Rattle.directory.specs.Layout.{laidOut}
 use Rattle.directory.proofs.laws.layout.Entries.{first, none, laid-end}
 use Rattle.store.specs.declared.Head.{Head}

@@ -5,11 +5,11 @@ use mathlib.Core.Path.{_≡_, refl, sym, ap, _∙_}
 use mathlib.Core.List.{List}
 use borrow.Author.Needs.{needs}
 use borrow.Author.Tests.{not-true, not-false}
-use lib.ListN.{length, drop, take, length-drop, length-take}
+use lib.ListN.{length, drop, length-drop, length-take}
 use Rattle.refusal.specs.Number.{accepted}
 use Rattle.chunker.proofs.laws.ground.Soundness.{window-bounds, fed-accepted, fresh-ground}
 use Rattle.chunker.proofs.laws.NextChunk.{NextChunk, next-of-rest}
-use Rattle.survey.specs.internal.Snapshot.{Snapshot, snapshot, ends, chunkOutcome}
+use Rattle.survey.specs.internal.Snapshot.{snapshot}
 use Rattle.survey.proofs.laws.chunks.Surveying.{Surveying, surveying-starts, surveying-ends, ready, outcome-on, outcome-stops}
 use Rattle.survey.proofs.chunks.survey.Statement.{statement}
 use Rattle.survey.proofs.chunks.survey.Tie as tie

@@ -6,30 +6,27 @@ use native.Mathlib.Numerals.{add-one}
 use mathlib.Core.Path.{_≡_, refl, sym, ap, ap₂, _∙_}
 use mathlib.Core.Bool.{Bool, true, false, cond, _||_}
 use mathlib.Core.List.{List, [], _∷_, _++_, append-assoc, append-nil}
-use lib.Dec.{leb, ltb}
+use lib.Dec.{ltb}
 use lib.ListN.{length, take, drop, set, length-append, length-drop}
 use lib.Seq.{take-at, drop-drop, drop-append-add, set-split}
 use borrow.Author.Tests.{lt-ltb, le-ltb}
 use Rattle.chunker.specs.Chunks.{chunks, total}
-use Rattle.directory.specs.Entry.{entries}
 use Rattle.store.specs.declared.Head.{Head}
-use Rattle.store.specs.Limits.{recipeLimit}
-use Rattle.store.specs.Contents.{number, has, gain, grown, added, repeated}
+use Rattle.store.specs.Contents.{number, has, grown, added, repeated}
 use Rattle.store.specs.Memory.{contents}
 use Rattle.store.proofs.laws.Memory.{contents-length}
 use Rattle.store.proofs.laws.grounds.Fitting.{fits-facts}
 use Rattle.store.proofs.laws.grounds.Filled.{total-contents}
 use Rattle.store.proofs.laws.contents.Numbering.{number-below, number-next}
-use Rattle.store.proofs.laws.contents.Growth.{has-grown, grown-append}
+use Rattle.store.proofs.laws.contents.Growth.{has-grown}
 use Rattle.store.proofs.laws.contents.Additions.{added-append, repeated-append, grown-added, length-grown, total-append}
-use Rattle.marks.specs.Marks.{repeatMark, firstMark, mark, marks, firsts}
+use Rattle.marks.specs.Marks.{repeatMark, firstMark, mark, marks}
 use Rattle.marks.proofs.laws.Positions.{starts-at}
 use Rattle.marks.proofs.laws.Marking.{length-marks, marks-last, Places}
 use Rattle.marks.proofs.laws.Appearing.{number-firsts}
-use Rattle.survey.specs.declared.Progress.{Progress}
 use Rattle.survey.specs.Walk as walk
 use Rattle.survey.specs.Walk.{roomIn, noted}
-use Rattle.survey.specs.internal.Snapshot.{Snapshot, snapshot, withRepeated, withNew, numberIn, placeIn, stored, met}
+use Rattle.survey.specs.internal.Snapshot.{Snapshot, snapshot, withRepeated, withNew, placeIn, stored, met}
 use Rattle.survey.specs.internal.Snapshot.{chunkGround, markIn, afterChunk}
 use Rattle.survey.specs.internal.Surveyed.{progressWith, progressAfter, surveyAfter}
 use Rattle.survey.specs.internal.Begun.{Begun}

@@ -1,11 +1,11 @@
 -- A survey under way, as its loop keeps it: what the places say is the walk so far, and what is still to do gives what was
 -- asked.
-use Prim.Native.Nat.{ℕ, suc, _+_, _≤_, _<_}
+use Prim.Native.Nat.{ℕ, suc, _+_, _≤_}
 use native.Mathlib.Omega.{arith}
-use native.Mathlib.Nat.{add-zero, zero-add}
+use native.Mathlib.Nat.{add-zero}
 use native.Mathlib.Numerals.{add-one}
 use mathlib.Core.Path.{_≡_, refl, sym, ap, ap₂, _∙_}
-use mathlib.Core.Bool.{Bool, true, false, cond, true≢false, false≢true}
+use mathlib.Core.Bool.{Bool, true, false, true≢false, false≢true}
 use mathlib.Core.List.{List, [], _∷_, _++_, append-assoc, append-nil}
 use lib.ListN.{length, take, drop, length-append, length-take, length-drop, drop-of-length-le}
 use lib.Seq.{drop-drop}
@@ -25,7 +25,7 @@ use Rattle.store.proofs.laws.contents.Additions.{length-grown, total-both, tota
 use Rattle.marks.specs.Marks.{marks}
 use Rattle.marks.proofs.laws.Marking.{length-marks}
 use Rattle.marks.proofs.laws.Appearing.{firsts-in}
-use Rattle.survey.specs.Walk.{roomIn, jobWalk, noted}
+use Rattle.survey.specs.Walk.{roomIn, jobWalk}
 use Rattle.survey.specs.Walk as walk
 use Rattle.survey.specs.internal.Snapshot.{Snapshot, snapshot, Outcome, ends, chunkGround, afterChunk, chunkOutcome}
 use Rattle.survey.specs.internal.Surveyed.{surveyAfter, surveyed}
