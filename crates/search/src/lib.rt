@@ -152,15 +152,14 @@ fn equal_blocks(pool: &[u8], from: usize, chunk: &[u8]) -> usize
     at
 }
 
-// Whether the chunk's bytes stand at a place.
-pub fn stands_at(bytes: &[u8], from: usize, chunk: &[u8]) -> bool
+// Whether the chunk's bytes from `at` on stand at a place, byte by byte.
+fn rest_stands(bytes: &[u8], from: usize, chunk: &[u8], at: usize) -> bool
     requires { ⌜ from + length (now chunk) ≤ length (now bytes) ⌝ }
-    ensures { λ r. ⌜ r ≡ same (take (length (now (chunk .entry))) (drop from (now (bytes .entry)))) (now (chunk .entry)) ⌝ }
+    requires { ⌜ at ≤ length (now chunk) ⌝ }
+    ensures stands { λ r. ⌜ (r ≡ true → Agree (now (bytes .entry)) from (now (chunk .entry)) at (length (now (chunk .entry)))) ⌝ }
+    ensures differs { λ r. ⌜ (r ≡ false → Differs (now (bytes .entry)) from (now (chunk .entry)) (length (now (chunk .entry)))) ⌝ }
 {
-    let mut i = equal_blocks(bytes, from, chunk);
-    if i + 16 <= chunk.len() {
-        return false;
-    }
+    let mut i = at;
     while i < chunk.len() {
         if bytes[from + i] != chunk[i] {
             return false;
@@ -168,6 +167,22 @@ pub fn stands_at(bytes: &[u8], from: usize, chunk: &[u8]) -> bool
         i += 1;
     }
     true
+}
+
+// Whether the chunk's bytes stand at a place. It compares blocks of 16 by itself, so that `equal_blocks` has one caller, and
+// is inlined there.
+pub fn stands_at(bytes: &[u8], from: usize, chunk: &[u8]) -> bool
+    requires { ⌜ from + length (now chunk) ≤ length (now bytes) ⌝ }
+    ensures { λ r. ⌜ r ≡ same (take (length (now (chunk .entry))) (drop from (now (bytes .entry)))) (now (chunk .entry)) ⌝ }
+{
+    let mut at = 0;
+    while at + 16 <= chunk.len() {
+        if differs_16(bytes, from, chunk, at) {
+            return false;
+        }
+        at += 16;
+    }
+    rest_stands(bytes, from, chunk, at)
 }
 
 // The lowest number of an equal chunk, or the next unused number. A candidate has the same length,
