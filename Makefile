@@ -8,13 +8,13 @@ export RT_JOBS ?= 2
 help:
 	@echo "make help            this list"
 	@echo "make test            all proofs from scratch, the must-fail edits and all other tests"
-	@echo "                     (about 12 minutes on two cores)"
+	@echo "                     (about 15 minutes on two cores)"
 	@echo "make list JOB=FILE   the frames of a job"
 	@echo "                     (about 2 minutes the first time, to prove and build the program; then at once)"
-	@echo "make example         a label and its revision, admitted and rebuilt from C"
+	@echo "make example         a label and its revision, quoted, taken and rebuilt from C"
 	@echo "                     (about 2 minutes the first time, to prove and build the library; then at once)"
 	@echo "make bench           the library measured beside plain Rust"
-	@echo "                     (about 3 minutes, and 2 more where the library is not built yet)"
+	@echo "                     (about 4 minutes, and 2 more where the library is not built yet)"
 
 test:
 	@tests/run
@@ -26,7 +26,7 @@ list: job target/bin/listing
 job:
 	@tools/job "$$JOB"
 
-# Admits a label and its revision to one store, from C, and rebuilds both.
+# Takes a label into a store, quotes its revision and takes it, from C, and rebuilds both.
 example: target/staticlib/libhirunvel.a
 	@mkdir -p target/example
 	@cc -std=c99 -Iinclude -o target/example/label_revision examples/label_revision.c -Ltarget/staticlib -lhirunvel

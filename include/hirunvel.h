@@ -123,7 +123,8 @@ uint32_t hirunvel_scanner_finish(uint32_t scanner[4], uint64_t *count);
  * HIRUNVEL_MEMORY_LIMIT and HIRUNVEL_HEAD holds, the job is accepted. With less room it is refused only if it needs
  * more than there is: HIRUNVEL_RECIPE_FULL is reported only if the recipe has fewer numbers than the job has chunks,
  * HIRUNVEL_DIRECTORY_FULL only if fewer entries are unused than the job has new chunks, and HIRUNVEL_POOL_FULL only if
- * fewer pool bytes are left after filled than its new chunks have. All of this is proved.
+ * fewer pool bytes are left after filled than its new chunks have. All of this is proved, in
+ * crates/admission/proofs/theorems/Room.antt.
  */
 
 /*
