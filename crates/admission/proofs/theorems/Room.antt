@@ -2,11 +2,12 @@
 use Prim.Native.Nat.{ℕ, _+_, _/_, _≤_, _<_}
 use native.Mathlib.Omega.{arith}
 use native.Mathlib.Nat.{zero-add}
-use mathlib.Core.Path.{_≡_, ap, subst, _∙_}
+use mathlib.Core.Path.{_≡_, sym, ap, subst, _∙_}
+use mathlib.Core.Logic.{_⊎_, ⊎-elim}
 use mathlib.Core.Bool.{true}
 use mathlib.Core.List.{List}
 use lib.ListN.{length}
-use Rattle.refusal.specs.Number.{accepted}
+use Rattle.refusal.specs.Number.{numberOf, accepted}
 use Rattle.refusal.specs.declared.Refusal.{Refusal}
 use Rattle.refusal.specs.declared.Refusal.the-variants.{RecipeFull, DirectoryFull, PoolFull}
 use Rattle.chunker.specs.Bytes.{Bytes}
@@ -43,11 +44,9 @@ module _ (head : Head) (pool directory recipe job : List ℕ) where
   abbrev cs : List (List ℕ)
   cs = chunks (head .window) job
 
-  -- a take is accepted where its quote is
-  alike : accepted (quoted head pool directory recipe job .answer .refusal) ≡ true → Accepts head pool directory recipe job
-  alike h =
-      let same = ap (λ q. accepted (q .answer .refusal)) (same-quotation head pool directory recipe job) in
-      record { quotes = h; takes = same ∙ h }
+  -- a take is refused as its quote is
+  alike : taken head pool directory recipe job .answer .quoted .refusal ≡ quoted head pool directory recipe job .answer .refusal
+  alike = ap (λ q. q .answer .refusal) (same-quotation head pool directory recipe job)
 
   -- "A job that has room is accepted": for each chunk that it may have, a place of the recipe and an unused entry, and for each
   -- byte an unused one of the pool
@@ -69,7 +68,22 @@ module _ (head : Head) (pool directory recipe job : List ℕ) where
         entries = omega (arith, length-grown held cs, added-most held cs, few, count, numbers);
         bytes = omega (arith, total-grown held cs, total-both held cs, total-chunks (head .window) job, full, room);
       }) in
-      alike (ap accepted (quote-refusal head pool directory recipe job none) ∙ walks)
+      let quotes = ap accepted (quote-refusal head pool directory recipe job none) ∙ walks in
+      record { quotes = quotes; takes = ap accepted alike ∙ quotes }
+
+  -- a quote or a take of the job reports a ground
+  abbrev pub Reports : Refusal → Type 0
+  Reports ground =
+      (quoted head pool directory recipe job .answer .refusal ≡ ground)
+      ⊎ (taken head pool directory recipe job .answer .quoted .refusal ≡ ground)
+
+  -- one of 6 to 8 is reported where no earlier ground holds and the walk ends with it
+  reported : (ground : Refusal) → 6 ≤ numberOf ground → Reports ground
+      → (accepted (admissionGround head pool directory recipe job) ≡ true)
+      × (jobWalk head pool directory recipe job .refusal ≡ ground)
+  reported ground late =
+      ⊎-elim (chunk-refused head pool directory recipe job ground late)
+      (λ e. chunk-refused head pool directory recipe job ground late (sym alike ∙ e))
 
   -- what a job lacks of which a chunk is refused
   lacks : (ground : Refusal) → jobWalk head pool directory recipe job .refusal ≡ ground
@@ -81,23 +95,20 @@ module _ (head : Head) (pool directory recipe job : List ℕ) where
       (walk-lacks room 0 held cs))
 
   -- "At this piece, the recipe is full": the job has more chunks than the recipe has places
-  pub full-recipe : quoted head pool directory recipe job .answer .refusal ≡ RecipeFull
-      → length recipe < length (chunks (head .window) job)
-  full-recipe e = lacks RecipeFull (chunk-refused head pool directory recipe job RecipeFull (omega arith) e .1)
+  pub full-recipe : Reports RecipeFull → length recipe < length (chunks (head .window) job)
+  full-recipe r = lacks RecipeFull (reported RecipeFull (omega arith) r .1)
 
   -- "This piece is new and the directory has no unused entry": store and job have more chunks than the directory has entries
-  pub full-directory : quoted head pool directory recipe job .answer .refusal ≡ DirectoryFull
-      → entries directory < head .chunks .0 + length (newOf head pool directory job)
-  full-directory e =
-      let none = chunk-refused head pool directory recipe job DirectoryFull (omega arith) e in
+  pub full-directory : Reports DirectoryFull → entries directory < head .chunks .0 + length (newOf head pool directory job)
+  full-directory r =
+      let none = reported DirectoryFull (omega arith) r in
       let more : entries directory < length (grown held cs) = lacks DirectoryFull (none .1) in
       omega (arith, more, length-grown held cs, contents-length pool directory 0 (head .chunks .0))
 
   -- "This piece is new and longer than the pool bytes after filled": store and new chunks have more bytes than the pool
-  pub full-pool : quoted head pool directory recipe job .answer .refusal ≡ PoolFull
-      → length pool < head .filled .0 + total (newOf head pool directory job)
-  full-pool e =
-      let none = chunk-refused head pool directory recipe job PoolFull (omega arith) e in
+  pub full-pool : Reports PoolFull → length pool < head .filled .0 + total (newOf head pool directory job)
+  full-pool r =
+      let none = reported PoolFull (omega arith) r in
       let p = all-passed head pool directory recipe job (none .0) in
       let more : length pool < total (grown held cs) = lacks PoolFull (none .1) in
       omega (arith, more, total-grown held cs, total-contents head pool directory (p .fitting))
