@@ -49,8 +49,8 @@ module _ (head : Head) (pool directory recipe job : List ℕ) where
   earlier = jobWalk head pool directory recipe job .passed
 
   -- where a chunk is refused, a quote leaves the recipe's places from the refused chunk's on
-  pub quote-leaves : drop (length earlier) (quoted head pool directory recipe job .recipe) ≡ drop (length earlier) recipe
-  quote-leaves = by-ground (accepted (admissionGround head pool directory recipe job)) refl
+  pub quote-rest : drop (length earlier) (quoted head pool directory recipe job .recipe) ≡ drop (length earlier) recipe
+  quote-rest = by-ground (accepted (admissionGround head pool directory recipe job)) refl
     where
       ns : List ℕ
       ns = numbers (contents pool directory (head .chunks .0)) earlier
@@ -66,8 +66,8 @@ module _ (head : Head) (pool directory recipe job : List ℕ) where
       by-ground false h = ap (drop (length earlier)) (quote-untouched h)
 
   -- and so does a take
-  pub take-leaves : drop (length earlier) (taken head pool directory recipe job .recipe) ≡ drop (length earlier) recipe
-  take-leaves = ap (λ q. drop (length earlier) (q .recipe)) (same-quotation head pool directory recipe job) ∙ quote-leaves
+  pub take-rest : drop (length earlier) (taken head pool directory recipe job .recipe) ≡ drop (length earlier) recipe
+  take-rest = ap (λ q. drop (length earlier) (q .recipe)) (same-quotation head pool directory recipe job) ∙ quote-rest
 
   -- a take and its quote are accepted or refused alike
   alike : accepted (quoted head pool directory recipe job .answer .refusal)
@@ -95,5 +95,5 @@ module _ (head : Head) (pool directory recipe job : List ℕ) where
         poolAfter = left .bytesAfter;
         directoryBefore = left .numbersBefore;
         directoryAfter = left .numbersAfter;
-        recipeAfter = subst (λ n. drop n (quoted head pool directory recipe job .recipe) ≡ drop n recipe) counted quote-leaves;
+        recipeAfter = subst (λ n. drop n (quoted head pool directory recipe job .recipe) ≡ drop n recipe) counted quote-rest;
       })
