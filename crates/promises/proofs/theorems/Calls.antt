@@ -23,10 +23,10 @@ use Rattle.promises.proofs.theorems.Saving.{saves}
 use Rattle.promises.proofs.theorems.GivesBack.{gives-back}
 use Rattle.promises.proofs.theorems.SeveralFields.{several-fields}
 use Rattle.promises.proofs.theorems.Promise.{promise}
-use Rattle.numbers.specs.Storing.{headNumbers, countsOf}
+use Rattle.numbers.specs.Storing.{headOf, headNumbers, countsOf}
 use Rattle.hirunvel.specs.Storing.{StoreQuotation, storeOpened, storeQuoted, storeTaken}
 use Rattle.hirunvel.specs.Rebuilding.{jobRebuilt}
-use Rattle.promises.specs.Calls.{Memory, opened, leaves, chunksOf, before, chunksBefore, TakesCall, takesCall, AsksCall, quoteCalled, takeCalled}
+use Rattle.promises.specs.Calls.{Memory, opened, quoteCall, takeCall, toldBy, leaves, chunksOf, before, chunksBefore, TakesCall, takesCall, AsksCall, quoteCalled, takeCalled}
 use Rattle.promises.specs.Calls.{TakenCall, AskedCall, recipeOf, chargeOf, Counts, Saves, GivesBack, rebuild, PromisedCalls}
 
 -- a store's state as a C program keeps it
@@ -70,6 +70,12 @@ call-leaves s (taking job recipe) = by-test (history.accepts s (taking job recip
         → leaves (memoryOf s) (taking job recipe) ≡ memoryOf (history.leaves s (taking job recipe))
     by-test true h = rw h
     by-test false h = rw (h, untouched (s .head) (s .pool) (s .directory) recipe job (sym same ∙ h) .sameHead)
+
+-- "On the same inputs a quote and a take give equal lengths and counts, 0 if refused, equal recipes and the same refusal": of
+-- any head, pool and directory
+pub quote-tells-called : (m : Memory) (job recipe : List ℕ) → quoteCall m job recipe ≡ toldBy (takeCall m job recipe)
+unfolding storeQuoted storeTaken
+quote-tells-called m job recipe = ap numbersOf (sym (same-quotation (headOf (m .head)) (m .pool) (m .directory) recipe job))
 
 module _ (w : ℕ) (allowed : storeOpened w .refusal ≡ 0) (pool directory : List ℕ) (calls : List Event)
     (b : AllBytes calls) where
