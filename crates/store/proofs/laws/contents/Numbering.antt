@@ -1,5 +1,5 @@
 -- Laws of the number that a chunk has in a list of chunks, or gets there.
-use Prim.Native.Nat.{ℕ, suc, _+_, _≤_, _<_}
+use Prim.Native.Nat.{ℕ, suc, _+_, _<_}
 use native.Mathlib.Omega.{arith}
 use native.Mathlib.Nat.{zero-add}
 use mathlib.Core.Path.{_≡_, refl, sym}
@@ -47,22 +47,6 @@ number-added held c h = rw (number-parts held (c ∷ []) c, h, same-itself c) (o
 pub number-next : (held : List (List ℕ)) (c : List ℕ) → has held c ≡ false → number held c ≡ length held
 unfolding number
 number-next held c h = omega (arith, rw (append-nil held, h) at (number-parts held [] c))
-
--- so a chunk whose number is below the count is there
-pub below-has : (held : List (List ℕ)) (c : List ℕ) → number held c < length held → has held c ≡ true
-below-has held c l = step (has held c) refl
-  where
-    step : (t : Bool) → has held c ≡ t → t ≡ true
-    step true e = refl
-    step false e = absurd (omega (arith, number-next held c e))
-
--- and one whose number is not is not
-pub not-below-has-not : (held : List (List ℕ)) (c : List ℕ) → length held ≤ number held c → has held c ≡ false
-not-below-has-not held c l = step (has held c) refl
-  where
-    step : (t : Bool) → has held c ≡ t → t ≡ false
-    step true e = absurd (omega (arith, number-below held c e))
-    step false e = refl
 
 -- the chunk that has a number is at that place
 pub chunk-at-number : (held : List (List ℕ)) (c : List ℕ) → has held c ≡ true → getD held (number held c) [] ≡ c
