@@ -1,4 +1,4 @@
-// Lists standard input: admits it as a job to a fresh store, and prints one frame per line.
+// Lists standard input: takes it as a job into a fresh store, and prints one frame per line.
 ghost use Prim.Native.Nat.{_≤_};
 ghost use lib.ListN.{length};
 use libc::STDERR_FILENO;

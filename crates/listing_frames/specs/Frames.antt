@@ -50,16 +50,16 @@ abbrev pub outcome : List ℕ → Quotation
 outcome job =
     quoted (fresh window) (replicate poolBytes 0) (replicate directoryNumbers 0) (replicate recipePlaces 0) job
 
--- the frames of a job that was admitted
-abbrev pub admittedFrames : List ℕ → Quotation → List ℕ
-admittedFrames job a =
-    cond (accepted (a .answer .refusal))
-    (chunkFrames [] 0 (chunks window job) (recipeOf a) ++ lastFrame (a .answer .«new_bytes») (length job) Accepted)
-    (refusedFrame (a .answer .refusal))
+-- the frames of a job, by its quotation
+abbrev pub quotedFrames : List ℕ → Quotation → List ℕ
+quotedFrames job q =
+    cond (accepted (q .answer .refusal))
+    (chunkFrames [] 0 (chunks window job) (recipeOf q) ++ lastFrame (q .answer .«new_bytes») (length job) Accepted)
+    (refusedFrame (q .answer .refusal))
 
 -- the text of a job's frames
 unfoldable pub listing : List ℕ → List ℕ
-listing job = cond (leb (length job) longestJob) (admittedFrames job (outcome job)) (refusedFrame JobLength)
+listing job = cond (leb (length job) longestJob) (quotedFrames job (outcome job)) (refusedFrame JobLength)
 
 -- the refusal of a job
 unfoldable pub refusalOf : List ℕ → Refusal

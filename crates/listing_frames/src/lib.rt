@@ -10,7 +10,7 @@ use refusal::Refusal;
 // A longer job is refused by ground 3.
 pub const LONGEST_JOB: usize = 16384;
 
-// The window of the store that a job is admitted to, the bytes of its pool, the numbers of its directory of
+// The window of the store that a job is taken into, the bytes of its pool, the numbers of its directory of
 // 1,024 entries, and the places of the recipe.
 const WINDOW: u32 = 4;
 

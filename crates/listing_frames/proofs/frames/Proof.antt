@@ -12,7 +12,7 @@ use Rattle.store.specs.declared.Head.{Head}
 use Rattle.store.specs.Opening.{fresh}
 use Rattle.admission.specs.Quote.{Quotation}
 use Rattle.admission.specs.Take.{quotationOf, taken}
-use Rattle.listing_frames.specs.Frames.{window, poolBytes, directoryNumbers, recipePlaces, outcome, admittedFrames, written, listed}
+use Rattle.listing_frames.specs.Frames.{window, poolBytes, directoryNumbers, recipePlaces, outcome, quotedFrames, written, listed}
 use Rattle.admission.proofs.theorems.QuoteAndTake.{taken-after}
 use Rattle.listing_frames.proofs.laws.Listed.{Accepts, accepts, fresh-head, long-listed, short-listed, all-stand}
 use Rattle.listing_frames.proofs.frames.Statement.{statement}
@@ -65,7 +65,7 @@ came c = rw (opens c) at (c .quote .ensures)
 
 -- so are its frames
 comes : (c : tie.After-quote) (output : List ℕ) (q : Quotation) → q ≡ outcome (job c)
-    → listed (job c) output ≡ written (q .answer .refusal) (admittedFrames (job c) q) output
+    → listed (job c) output ≡ written (q .answer .refusal) (quotedFrames (job c) q) output
 comes c output = short-listed (job c) output (c .before .before .before .before .before .before .if1 .left)
 
 accepted-requires : tie.Need-accepted-requires

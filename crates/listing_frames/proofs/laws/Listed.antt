@@ -21,7 +21,7 @@ use Rattle.store.specs.Opening.{fresh, opened}
 use Rattle.store.proofs.laws.contents.Additions.{length-numbers}
 use Rattle.admission.specs.Quote.{Quotation, quoted, recipeOf}
 use Rattle.frame_text.specs.Frame.{frameBytes, lastFrame}
-use Rattle.listing_frames.specs.Frames.{window, longestJob, chunkFrames, refusedFrame, outcome, admittedFrames, listing, refusalOf, written, listed}
+use Rattle.listing_frames.specs.Frames.{window, longestJob, chunkFrames, refusedFrame, outcome, quotedFrames, listing, refusalOf, written, listed}
 use Rattle.listing_frames.specs.internal.Counted.{countedFrames}
 use Rattle.frame_text.proofs.laws.Stores.{sets-then, frame-length}
 use Rattle.store.proofs.laws.contents.Additions.{numbers-after}
@@ -31,35 +31,35 @@ use Rattle.listing_frames.proofs.laws.chunks.NewChunks.{counted-first, 
 
 -- the frames that the code writes for an accepted job
 abbrev pub codedFrames : List ℕ → Quotation → List ℕ
-codedFrames job a =
-    countedFrames 0 0 (chunks window job) (a .recipe)
-    ++ lastFrame (a .answer .«new_bytes») (length job) (a .answer .refusal)
+codedFrames job q =
+    countedFrames 0 0 (chunks window job) (q .recipe)
+    ++ lastFrame (q .answer .«new_bytes») (length job) (q .answer .refusal)
 
 -- a job that a fresh store accepts
-pub record Accepts (job : List ℕ) (a : Quotation) : Type 0 where
+pub record Accepts (job : List ℕ) (q : Quotation) : Type 0 where
   -- there is a number for each chunk
-  pub enough : length (chunks window job) ≤ length (a .recipe)
-  pub frames : admittedFrames job a ≡ codedFrames job a
+  pub enough : length (chunks window job) ≤ length (q .recipe)
+  pub frames : quotedFrames job q ≡ codedFrames job q
 
 module _ (pool directory recipe job : List ℕ) where
   -- it has a number for each chunk, and the frames that the code writes
-  pub accepts : (a : Quotation) → a ≡ quoted (fresh window) pool directory recipe job
-      → accepted (a .answer .refusal) ≡ true → Accepts job a
+  pub accepts : (q : Quotation) → q ≡ quoted (fresh window) pool directory recipe job
+      → accepted (q .answer .refusal) ≡ true → Accepts job q
   unfolding chunksFrom
-  accepts a same done =
+  accepts q same done =
       let cs = chunks window job in
-      let told : recipeOf a ≡ numbers [] cs =
+      let told : recipeOf q ≡ numbers [] cs =
       rw same (asked (fresh window) pool directory recipe job (rw same at done) .recipe ∙ sym (numbers-after _ (chunks window job))) in
-      let n = a .answer .«recipe_length» in
-      let parts = take-append-drop n (a .recipe) in
-      let many : length (recipeOf a) ≡ length cs = ap length told ∙ length-numbers [] cs in
-      let all : countedFrames 0 0 cs (a .recipe) ≡ countedFrames 0 0 cs (recipeOf a) =
-      ap (countedFrames 0 0 cs) (sym parts) ∙ counted-front 0 0 cs (recipeOf a) (drop n (a .recipe)) (omega arith) in
-      let first : countedFrames 0 0 cs (recipeOf a) ≡ chunkFrames [] 0 cs (recipeOf a) =
+      let n = q .answer .«recipe_length» in
+      let parts = take-append-drop n (q .recipe) in
+      let many : length (recipeOf q) ≡ length cs = ap length told ∙ length-numbers [] cs in
+      let all : countedFrames 0 0 cs (q .recipe) ≡ countedFrames 0 0 cs (recipeOf q) =
+      ap (countedFrames 0 0 cs) (sym parts) ∙ counted-front 0 0 cs (recipeOf q) (drop n (q .recipe)) (omega arith) in
+      let first : countedFrames 0 0 cs (recipeOf q) ≡ chunkFrames [] 0 cs (recipeOf q) =
       rw told (counted-first [] [] (λ c. refl) 0 cs) in
       record {
-        enough = omega (arith, length-append (recipeOf a) (drop n (a .recipe)), ap length parts);
-        frames = rw (done, all, first, no-ground (a .answer .refusal) done);
+        enough = omega (arith, length-append (recipeOf q) (drop n (q .recipe)), ap length parts);
+        frames = rw (done, all, first, no-ground (q .answer .refusal) done);
       }
 
 -- the head that opening gives is a fresh one
@@ -74,10 +74,10 @@ unfolding listed listing refusalOf
 long-listed job output h = rw (lt-leb _ _ h)
 
 -- a job that is short enough
-pub short-listed : (job output : List ℕ) → length job ≤ longestJob → (a : Quotation) → a ≡ outcome job
-    → listed job output ≡ written (a .answer .refusal) (admittedFrames job a) output
+pub short-listed : (job output : List ℕ) → length job ≤ longestJob → (q : Quotation) → q ≡ outcome job
+    → listed job output ≡ written (q .answer .refusal) (quotedFrames job q) output
 unfolding listed listing refusalOf
-short-listed job output h a e = rw (le-leb _ _ h, e)
+short-listed job output h q e = rw (le-leb _ _ h, e)
 
 -- the text and the refusal are told, and the text stands at the front of the output
 abbrev pub Stands : Refusal → List ℕ → List ℕ → List ℕ → ℕ → Type 0
@@ -97,20 +97,20 @@ one-stands refusal before after end room told stored =
     at-front refusal (refusedFrame refusal) before after end (omega arith) (omega arith) stored
 
 -- the frames of an accepted job
-pub all-stand : (before between after job : List ℕ) (a : Quotation) (middle end : ℕ) → Accepts job a
+pub all-stand : (before between after job : List ℕ) (q : Quotation) (middle end : ℕ) → Accepts job q
     → frameBytes * length (chunks window job) + frameBytes ≤ length before
     → middle ≡ frameBytes * length (chunks window job)
-    → between ≡ sets before 0 (countedFrames 0 0 (chunks window job) (a .recipe))
+    → between ≡ sets before 0 (countedFrames 0 0 (chunks window job) (q .recipe))
     → end ≡ middle + frameBytes
-    → after ≡ sets between middle (lastFrame (a .answer .«new_bytes») (length job) (a .answer .refusal))
-    → Stands (a .answer .refusal) (admittedFrames job a) before after end
-all-stand before between after job a middle end k room half stored told last =
-    let counted = countedFrames 0 0 (chunks window job) (a .recipe) in
-    let final = lastFrame (a .answer .«new_bytes») (length job) (a .answer .refusal) in
-    let size = counted-length 0 0 (chunks window job) (a .recipe) (k .enough) in
-    let whole : length (codedFrames job a) ≡ frameBytes * length (chunks window job) + frameBytes =
+    → after ≡ sets between middle (lastFrame (q .answer .«new_bytes») (length job) (q .answer .refusal))
+    → Stands (q .answer .refusal) (quotedFrames job q) before after end
+all-stand before between after job q middle end k room half stored told last =
+    let counted = countedFrames 0 0 (chunks window job) (q .recipe) in
+    let final = lastFrame (q .answer .«new_bytes») (length job) (q .answer .refusal) in
+    let size = counted-length 0 0 (chunks window job) (q .recipe) (k .enough) in
+    let whole : length (codedFrames job q) ≡ frameBytes * length (chunks window job) + frameBytes =
     rw (length-append counted final, size, frame-length _ _ _ _) in
     let both = sets-then counted final before 0 (frameBytes * length (chunks window job)) middle size (omega arith) in
     rw (k .frames)
-    (at-front (a .answer .refusal) (codedFrames job a) before after end (omega arith) (omega arith)
+    (at-front (q .answer .refusal) (codedFrames job q) before after end (omega arith) (omega arith)
     (last ∙ rw stored (sym both)))
