@@ -22,7 +22,7 @@ use Rattle.admission.proofs.laws.Outcomes.{quote-refused}
 use Rattle.admission.proofs.laws.Asked.{passed, whole, asked}
 use Rattle.admission.proofs.laws.Takes.{Untouched, untouched, stores-new, bytes-room, entries-room}
 use Rattle.admission.proofs.laws.Refusals.{quote-walks}
-use Rattle.admission.proofs.theorems.QuoteAndTake.{same-quotation}
+use Rattle.admission.proofs.theorems.QuoteAndTake.{same-quotation, same-refusal}
 
 -- the pool and the directory before and after what is stored, and the recipe after its numbers
 pub record LeftAlone (head : Head) (pool directory recipe : List ℕ) (t : Taking) : Type 0 where
@@ -72,7 +72,7 @@ module _ (head : Head) (pool directory recipe job : List ℕ) where
   -- a take and its quote are accepted or refused alike
   alike : accepted (quoted head pool directory recipe job .answer .refusal)
       ≡ accepted (taken head pool directory recipe job .answer .quoted .refusal)
-  alike = sym (ap (λ q. accepted (q .answer .refusal)) (same-quotation head pool directory recipe job))
+  alike = sym (ap accepted (same-refusal head pool directory recipe job))
 
   -- "A take refused by 6 to 8 now leaves pool and directory untouched": so does one refused on any ground, and the head stays
   pub refused-leaves : accepted (taken head pool directory recipe job .answer .quoted .refusal) ≡ false

@@ -35,6 +35,11 @@ same-quotation head pool directory recipe job = by-test (accepted (q .answer .re
     by-test true = refl
     by-test false = refl
 
+-- so it is refused as its quote is
+pub same-refusal : (head : Head) (pool directory recipe job : List ℕ)
+    → taken head pool directory recipe job .answer .quoted .refusal ≡ quoted head pool directory recipe job .answer .refusal
+same-refusal head pool directory recipe job = ap (λ q. q .answer .refusal) (same-quotation head pool directory recipe job)
+
 module _ (head : Head) (pool directory recipe job : List ℕ) where
   -- the chunks of the store, the first of the grounds 1 and 3 to 5, and the walk
   abbrev held : List (List ℕ)

@@ -29,7 +29,7 @@ use Rattle.admission.proofs.laws.grounds.Passed.{all-passed}
 use Rattle.admission.proofs.laws.Chunks.{total-chunks}
 use Rattle.admission.proofs.laws.Refusals.{quote-refusal, chunk-refused}
 use Rattle.admission.proofs.theorems.ChunkCount.{chunk-count}
-use Rattle.admission.proofs.theorems.QuoteAndTake.{same-quotation}
+use Rattle.admission.proofs.theorems.QuoteAndTake.{same-refusal}
 
 -- a job is accepted by quote and take
 pub record Accepts (head : Head) (pool directory recipe job : List ℕ) : Type 0 where
@@ -43,10 +43,6 @@ module _ (head : Head) (pool directory recipe job : List ℕ) where
 
   abbrev cs : List (List ℕ)
   cs = chunks (head .window) job
-
-  -- a take is refused as its quote is
-  alike : taken head pool directory recipe job .answer .quoted .refusal ≡ quoted head pool directory recipe job .answer .refusal
-  alike = ap (λ q. q .answer .refusal) (same-quotation head pool directory recipe job)
 
   -- "A job that has room is accepted": for each chunk that it may have, a place of the recipe and an unused entry, and for each
   -- byte an unused one of the pool
@@ -69,7 +65,7 @@ module _ (head : Head) (pool directory recipe job : List ℕ) where
         bytes = omega (arith, total-grown held cs, total-both held cs, total-chunks (head .window) job, full, room);
       }) in
       let quotes = ap accepted (quote-refusal head pool directory recipe job none) ∙ walks in
-      record { quotes = quotes; takes = ap accepted alike ∙ quotes }
+      record { quotes = quotes; takes = ap accepted (same-refusal head pool directory recipe job) ∙ quotes }
 
   -- a quote or a take of the job reports a ground
   abbrev pub Reports : Refusal → Type 0
@@ -83,7 +79,7 @@ module _ (head : Head) (pool directory recipe job : List ℕ) where
       × (jobWalk head pool directory recipe job .refusal ≡ ground)
   reported ground late =
       ⊎-elim (chunk-refused head pool directory recipe job ground late)
-      (λ e. chunk-refused head pool directory recipe job ground late (sym alike ∙ e))
+      (λ e. chunk-refused head pool directory recipe job ground late (sym (same-refusal head pool directory recipe job) ∙ e))
 
   -- what a job lacks of which a chunk is refused
   lacks : (ground : Refusal) → jobWalk head pool directory recipe job .refusal ≡ ground

@@ -19,7 +19,7 @@ use Rattle.store.proofs.laws.contents.Growth.{Among, grown-keeps, grown-has, gr
 use Rattle.admission.specs.Quote.{Quotation, recipeOf}
 use Rattle.admission.proofs.laws.Asked.{Asked, passed, asked, chunks-few}
 use Rattle.admission.proofs.laws.Takes.{adds, untouched}
-use Rattle.admission.proofs.theorems.QuoteAndTake.{same-quotation}
+use Rattle.admission.proofs.theorems.QuoteAndTake.{same-quotation, same-refusal}
 use Rattle.promises.specs.History.{Event, quoting, taking, reading, State, start, holds, quoteIn, leaves, accepts, chunksOf, eventAt}
 use Rattle.promises.specs.History.{before, chunksBefore, Takes, takes, Asks, byQuote, byTake, TakenAt, AskedAt, BytesIn, AllBytes}
 
@@ -66,7 +66,7 @@ unfolding leaves grown
 grows-take s f job recipe b = step (accepts s (taking job recipe)) refl
   where
     same : accepts s (taking job recipe) ≡ accepted (quoteIn s job recipe .answer .refusal)
-    same = ap (λ q. accepted (q .answer .refusal)) (same-quotation (s .head) (s .pool) (s .directory) recipe job)
+    same = ap accepted (same-refusal (s .head) (s .pool) (s .directory) recipe job)
 
     step : (t : Bool) → accepts s (taking job recipe) ≡ t
         → Grows s (leaves s (taking job recipe)) (cond t (chunks (s .head .window) job) [])

@@ -12,7 +12,7 @@ use Rattle.chunker.specs.KeptMaximum.{KeptMaximum}
 use Rattle.store.specs.Opening as store
 use Rattle.admission.specs.Quote.{Quotation}
 use Rattle.admission.proofs.laws.Takes.{untouched}
-use Rattle.admission.proofs.theorems.QuoteAndTake.{same-quotation}
+use Rattle.admission.proofs.theorems.QuoteAndTake.{same-quotation, same-refusal}
 use Rattle.promises.specs.History as history
 use Rattle.promises.specs.History.{Event, quoting, taking, reading, State, start, eventAt, quoteIn, Takes, takes, Asks, byQuote, byTake}
 use Rattle.promises.specs.History.{TakenAt, AskedAt, AllBytes}
@@ -64,7 +64,7 @@ call-leaves s reading = refl
 call-leaves s (taking job recipe) = by-test (history.accepts s (taking job recipe)) refl
   where
     same : history.accepts s (taking job recipe) ≡ accepted (quoteIn s job recipe .answer .refusal)
-    same = ap (λ q. accepted (q .answer .refusal)) (same-quotation (s .head) (s .pool) (s .directory) recipe job)
+    same = ap accepted (same-refusal (s .head) (s .pool) (s .directory) recipe job)
 
     by-test : (t : Bool) → history.accepts s (taking job recipe) ≡ t
         → leaves (memoryOf s) (taking job recipe) ≡ memoryOf (history.leaves s (taking job recipe))
