@@ -8,6 +8,7 @@ pub mod Promise
 pub mod LastField
 pub mod StarredJobs
 pub mod Windows
+pub mod JustEnoughRoom
 pub mod Witnesses
 pub mod FieldWitnesses
 pub mod FieldPremises
