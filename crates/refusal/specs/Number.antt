@@ -1,9 +1,10 @@
--- The numbers of the grounds for turning work away, as the scope's section "Grounds" lists them.
+-- The numbers of the grounds for turning work away, as the scope's section "Grounds" and the change requests list them.
 use Prim.Native.Nat.{ℕ}
 use mathlib.Core.Bool.{Bool}
 use lib.Dec.{eqb}
 use Rattle.refusal.specs.declared.Refusal.{Refusal}
 use Rattle.refusal.specs.declared.Refusal.the-variants.{Accepted, Window, Unsound, JobLength, MemoryLimit, Head, RecipeFull, DirectoryFull, PoolFull, ChunkNumber, OutputShort}
+use Rattle.refusal.specs.declared.Refusal.the-variants.{IndexLength, Index}
 
 -- "The first ground that holds is reported": its number, and 0 where none holds
 abbrev pub numberOf : Refusal → ℕ
@@ -18,6 +19,8 @@ numberOf DirectoryFull = 7
 numberOf PoolFull = 8
 numberOf ChunkNumber = 9
 numberOf OutputShort = 10
+numberOf IndexLength = 11
+numberOf Index = 12
 
 -- "where none holds the work is done"
 abbrev pub accepted : Refusal → Bool

@@ -25,6 +25,10 @@ pub enum Refusal {
     ChunkNumber,
     // 10: the output is shorter than the rebuilt job.
     OutputShort,
+    // 11: the index has another length than 1,024 and the directory's entries.
+    IndexLength,
+    // 12: the index's chains do not meet every chunk just once under its own sum, and nothing else.
+    Index,
 }
 
 // The paper's number of a ground; 0 where none holds.
@@ -43,6 +47,8 @@ pub fn number(refusal: Refusal) -> u8
         Refusal::PoolFull => 8,
         Refusal::ChunkNumber => 9,
         Refusal::OutputShort => 10,
+        Refusal::IndexLength => 11,
+        Refusal::Index => 12,
     }
 }
 

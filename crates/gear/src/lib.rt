@@ -1,0 +1,1 @@
+// The Gear sum of bytes, by a constant table, and the chain that it chooses.
