@@ -1,1 +1,3 @@
 pub mod Sums
+pub mod Stretches
+pub mod After

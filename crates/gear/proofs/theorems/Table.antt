@@ -1,9 +1,30 @@
--- The table's numbers are those of its rule.
-use Prim.Native.Nat.{ℕ}
+-- The table keeps its rule, and its numbers are those of the code.
+use Prim.Native.Nat.{ℕ, zero, suc, _+_, _<_}
+use native.Mathlib.Omega.{arith}
+use native.Mathlib.Numerals.{add-one}
 use mathlib.Core.Path.{_≡_, refl}
 use mathlib.Core.List.{List, [], _∷_}
+use lib.ListN.{getD}
 use Rattle.gear.specs.Gear.{next, entriesFrom, table}
 
+-- "Entry 0 is 270369"
+pub first-entry : getD table 0 0 ≡ 270369
+unfolding table entriesFrom
+first-entry = refl
+
+entries-follow : (n x i : ℕ) → suc i < n → getD (entriesFrom n x) (suc i) 0 ≡ next (getD (entriesFrom n x) i 0)
+unfolding entriesFrom
+entries-follow zero x i h = absurd (omega arith)
+entries-follow (suc zero) x i h = absurd (omega arith)
+entries-follow (suc (suc n)) x zero h = refl
+entries-follow (suc (suc n)) x (suc i) h = entries-follow (suc n) (next x) i (omega arith)
+
+-- "each next entry follows from the last"
+pub next-entry : (i : ℕ) → i < 255 → getD table (i + 1) 0 ≡ next (getD table i 0)
+unfolding table
+next-entry i h = rw (add-one i) (entries-follow 256 270369 i (omega arith))
+
+-- the numbers of the constant in the code
 unfoldable pub numbers : List ℕ
 numbers =
     270369 ∷ 67634689 ∷ 2647435461 ∷ 307599695 ∷ 2398689233 ∷ 745495504 ∷
