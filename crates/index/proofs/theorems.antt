@@ -1,0 +1,3 @@
+pub mod EachChunkOnce
+pub mod PlainSearch
+pub mod Entering
