@@ -1,3 +1,2 @@
--- laws/Candidates has the laws of the next entry that can hold a chunk, laws/Searching those of a search under way,
--- laws/Standing those of a chunk's bytes at a place.
+-- laws/Comparing and laws/Standing have the laws of a chunk's bytes at a place, laws/Searching those of a search under way.
 pub mod laws

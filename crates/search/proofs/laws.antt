@@ -1,3 +1,3 @@
-pub mod Candidates
-pub mod Searching
+pub mod Comparing
 pub mod Standing
+pub mod Searching

@@ -1,119 +1,15 @@
-// The search for a chunk in a store: a layer below admission.
+// The search for a chunk in a store, along the chain of its Gear sum: a layer below admission.
 ghost use mathlib.Core.Path.{_≡_};
 ghost use mathlib.Core.Bool.{true, false};
-ghost use Prim.Native.Nat.{_+_, _*_, _≤_, _<_};
+ghost use Prim.Native.Nat.{_+_, _≤_, _<_, min};
 ghost use lib.ListN.{length, take, drop};
-ghost use Rattle.directory.specs.Entry.{stride, offsetAt};
+ghost use Rattle.gear.specs.Gear.{chains, chain};
 ghost use Rattle.store.specs.Contents.{same, number};
 ghost use Rattle.store.specs.Memory.{contents};
 ghost use Rattle.store.specs.internal.EntriesIn.{EntriesIn};
-ghost use Rattle.search.specs.internal.Candidates.{Next, OfLength, keyAt, OfKey, NextCandidate, Differs, Agree, EqualBlocks};
+ghost use Rattle.index.specs.Grounds.{meets};
+ghost use Rattle.search.specs.internal.Comparing.{Differs, Agree, EqualBlocks};
 use directory::ChunkNumber;
-
-// How many of the four entries from `entry` on come before the first that has `size` bytes.
-fn before_length(directory: &[u32], entry: usize, size: usize) -> usize
-    requires { ⌜ (entry + 4) * stride ≤ length (now directory) ⌝ }
-    ensures { λ r. ⌜ Next (OfLength (now (directory .entry)) size) entry (entry + 4) (entry + r) ⌝ }
-{
-    if directory::length_of(directory, entry) == size {
-        return 0;
-    }
-    if directory::length_of(directory, entry + 1) == size {
-        return 1;
-    }
-    if directory::length_of(directory, entry + 2) == size {
-        return 2;
-    }
-    if directory::length_of(directory, entry + 3) == size {
-        return 3;
-    }
-    4
-}
-
-// The first entry from `from` on, before entry `count`, that has `size` bytes; `count` where there is
-// none.
-fn next_of_length(directory: &[u32], from: usize, count: usize, size: usize) -> usize
-    requires { ⌜ from ≤ count ⌝ }
-    requires { ⌜ count * stride ≤ length (now directory) ⌝ }
-    ensures { λ r. ⌜ Next (OfLength (now (directory .entry)) size) from count r ⌝ }
-{
-    let mut entry = from;
-    while entry < count {
-        if directory::length_of(directory, entry) == size {
-            return entry;
-        }
-        entry += 1;
-    }
-    count
-}
-
-// The same, unrolled to four entries per iteration: the loop overhead equals the work.
-fn next_of_length_by_fours(directory: &[u32], from: usize, count: usize, size: usize) -> usize
-    requires { ⌜ from ≤ count ⌝ }
-    requires { ⌜ count * stride ≤ length (now directory) ⌝ }
-    ensures { λ r. ⌜ Next (OfLength (now (directory .entry)) size) from count r ⌝ }
-{
-    let mut entry = from;
-    while entry + 4 <= count {
-        let others = before_length(directory, entry, size);
-        entry += others;
-        if others < 4 {
-            return entry;
-        }
-    }
-    next_of_length(directory, entry, count, size)
-}
-
-// An entry's length and first byte as one number, so that one comparison tests both.
-fn key_of(pool: &[u8], directory: &[u32], entry: usize) -> u64
-    requires { ⌜ entry * stride + 1 < length (now directory) ⌝ }
-    requires { ⌜ offsetAt (now directory) entry < length (now pool) ⌝ }
-    ensures { λ r. ⌜ r ≡ keyAt (now (pool .entry)) (now (directory .entry)) entry ⌝ }
-{
-    let offset = directory::offset_of(directory, entry);
-    let first = pool[offset.0 as usize];
-    directory::length_of(directory, entry) as u64 * 256 + first as u64
-}
-
-// The first entry from `from` on, before entry `count`, with a key; `count` where there is none. Two
-// entries per iteration.
-fn next_of_key(pool: &[u8], directory: &[u32], from: usize, count: usize, key: u64) -> usize
-    requires { ⌜ from ≤ count ⌝ }
-    requires { ⌜ EntriesIn (now pool) (now directory) count ⌝ }
-    ensures { λ r. ⌜ Next (OfKey (now (pool .entry)) (now (directory .entry)) key) from count r ⌝ }
-{
-    let mut entry = from;
-    while entry + 2 <= count {
-        if key_of(pool, directory, entry) == key {
-            return entry;
-        }
-        if key_of(pool, directory, entry + 1) == key {
-            return entry + 1;
-        }
-        entry += 2;
-    }
-    if entry < count {
-        if key_of(pool, directory, entry) == key {
-            return entry;
-        }
-    }
-    count
-}
-
-// The first entry from `from` on that can hold the chunk: none before it does, and it has as many
-// bytes. Short chunks often have the same length, so that their first bytes are compared too.
-fn next_candidate(pool: &[u8], directory: &[u32], from: usize, count: usize, chunk: &[u8]) -> usize
-    requires { ⌜ from ≤ count ⌝ }
-    requires { ⌜ EntriesIn (now pool) (now directory) count ⌝ }
-    requires { ⌜ 1 ≤ length (now chunk) ⌝ }
-    ensures { λ r. ⌜ NextCandidate (now (pool .entry)) (now (directory .entry)) (now (chunk .entry)) from count r ⌝ }
-{
-    if chunk.len() < 16 {
-        let key = chunk.len() as u64 * 256 + chunk[0] as u64;
-        return next_of_key(pool, directory, from, count, key);
-    }
-    next_of_length_by_fours(directory, from, count, chunk.len())
-}
 
 // Whether the chunk's 16 bytes from `at` on are not those of the pool. All are compared, so that the
 // compiler vectorises it.
@@ -185,21 +81,44 @@ pub fn stands_at(bytes: &[u8], from: usize, chunk: &[u8]) -> bool
     rest_stands(bytes, from, chunk, at)
 }
 
-// The lowest number of an equal chunk, or the next unused number. A candidate has the same length,
-// and is dropped at its first unequal byte, or with the 16-byte block that contains it.
-pub fn search(pool: &[u8], directory: &[u32], chunks: ChunkNumber, chunk: &[u8]) -> ChunkNumber
+// The lower of two numbers.
+fn lower(a: u32, b: u32) -> u32
+    ensures { λ r. ⌜ r ≡ min a b ⌝ }
+{
+    if b < a { b } else { a }
+}
+
+// The lowest number of an equal chunk, or the next unused number: by the links of the chunk's own chain, which may
+// be in any order. A candidate has the same length, and is dropped at its first unequal byte, or with the 16-byte
+// block that contains it.
+pub fn search(
+    pool: &[u8],
+    directory: &[u32],
+    index: &[u32],
+    chunks: ChunkNumber,
+    own: usize,
+    chunk: &[u8],
+) -> ChunkNumber
     requires { ⌜ EntriesIn (now pool) (now directory) (chunks .0) ⌝ }
-    requires { ⌜ 1 ≤ length (now chunk) ⌝ }
+    requires { ⌜ chains + chunks .0 ≤ length (now index) ⌝ }
+    requires { ⌜ meets (now index) (contents (now pool) (now directory) (chunks .0)) ≡ true ⌝ }
+    requires { ⌜ own ≡ chain (now chunk) ⌝ }
     ensures { λ r. ⌜ r .0 ≡ number (contents (now (pool .entry)) (now (directory .entry)) (chunks .0)) (now (chunk .entry)) ⌝ }
 {
-    let count = chunks.0 as usize;
-    let mut next = 0;
-    'entries: while next < count {
-        let entry = next_candidate(pool, directory, next, count, chunk);
-        if entry == count {
-            return chunks;
+    let count = chunks.0;
+    let mut left = count;
+    let mut next = index[own];
+    let mut best = count;
+    'entries: while left != 0 {
+        if count <= next {
+            return ChunkNumber(best);
         }
-        next = entry + 1;
+        let entry = next as usize;
+        left -= 1;
+        next = index[gear::CHAINS + entry];
+        if directory::length_of(directory, entry) != chunk.len() {
+            continue 'entries;
+        }
         let offset = directory::offset_of(directory, entry);
         let from = offset.0 as usize;
         let mut i = equal_blocks(pool, from, chunk);
@@ -212,7 +131,7 @@ pub fn search(pool: &[u8], directory: &[u32], chunks: ChunkNumber, chunk: &[u8])
             }
             i += 1;
         }
-        return ChunkNumber(entry as u32);
+        best = lower(best, entry as u32);
     }
-    chunks
+    ChunkNumber(best)
 }

@@ -3,8 +3,8 @@ use Prim.Native.Nat.{ℕ, _+_, _-_, _≤_}
 use native.Mathlib.Omega.{arith}
 use mathlib.Core.Path.{_≡_}
 use mathlib.Core.Bool.{true, false}
-use Rattle.search.specs.internal.Candidates.{Differs, Agree}
-use Rattle.search.proofs.laws.Candidates.{agree-more}
+use Rattle.search.specs.internal.Comparing.{Differs, Agree}
+use Rattle.search.proofs.laws.Comparing.{agree-more}
 use Rattle.search.proofs.differs_16.Statement.{statement}
 use Rattle.search.proofs.differs_16.Tie as tie
 

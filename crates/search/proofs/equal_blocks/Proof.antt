@@ -3,8 +3,8 @@ use Prim.Native.Nat.{_-_, _≤_}
 use native.Mathlib.Omega.{arith}
 use borrow.Author.Needs.{needs}
 use lib.ListN.{length}
-use Rattle.search.specs.internal.Candidates.{Agree}
-use Rattle.search.proofs.laws.Candidates.{differs-more, agree-on}
+use Rattle.search.specs.internal.Comparing.{Agree}
+use Rattle.search.proofs.laws.Comparing.{differs-more, agree-on}
 use Rattle.search.proofs.equal_blocks.Statement.{statement}
 use Rattle.search.proofs.equal_blocks.Tie as tie
 

@@ -10,7 +10,7 @@ use lib.ListN.{length, getD, take, drop, length-take, length-drop}
 use lib.Seq.{getD-take, getD-drop, ext-getD}
 use Rattle.store.specs.Contents.{same}
 use Rattle.store.proofs.laws.contents.Sameness.{equal-same, same-other}
-use Rattle.search.specs.internal.Candidates.{Differs, Agree}
+use Rattle.search.specs.internal.Comparing.{Differs, Agree}
 
 module _ (bytes chunk : List ℕ) (from : ℕ) where
   -- a byte at the place

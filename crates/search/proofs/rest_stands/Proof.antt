@@ -3,7 +3,7 @@ use Prim.Native.Nat.{ℕ, _-_, _≤_}
 use native.Mathlib.Omega.{arith}
 use mathlib.Core.Path.{_≡_}
 use lib.ListN.{length}
-use Rattle.search.specs.internal.Candidates.{Agree}
+use Rattle.search.specs.internal.Comparing.{Agree}
 use Rattle.search.proofs.laws.Standing.{agree-next}
 use Rattle.search.proofs.rest_stands.Statement.{statement}
 use Rattle.search.proofs.rest_stands.Tie as tie

@@ -5,8 +5,8 @@ use mathlib.Core.Path.{_≡_, _∙_}
 use mathlib.Core.Bool.{Bool, true, false}
 use borrow.Author.Needs.{needs}
 use lib.ListN.{length}
-use Rattle.search.specs.internal.Candidates.{Agree}
-use Rattle.search.proofs.laws.Candidates.{differs-more, agree-on}
+use Rattle.search.specs.internal.Comparing.{Agree}
+use Rattle.search.proofs.laws.Comparing.{differs-more, agree-on}
 use Rattle.search.proofs.laws.Standing.{stands-by, stands-not}
 use Rattle.search.proofs.stands_at.Statement.{statement}
 use Rattle.search.proofs.stands_at.Tie as tie
