@@ -268,29 +268,31 @@ const TABLE: [u32; 256] = [
     1424859452,
 ];
 
-// The entry of a byte.
-fn entry(b: u8) -> u32
-    ensures { λ r. ⌜ r ≡ getD table b 0 ⌝ }
+// The entries of the table. Whatever reads the constant first copies all of it to the stack, so a
+// loop makes one copy before it starts.
+pub fn entries() -> [u32; 256]
+    ensures { λ r. ⌜ r ≡ table ⌝ }
 {
-    TABLE[b as usize]
+    TABLE
 }
 
 // A sum after one more byte: twice itself plus the byte's entry, kept to 32 bits.
-fn step(sum: u32, b: u8) -> u32
+fn step(entries: &[u32; 256], sum: u32, b: u8) -> u32
+    requires { ⌜ now entries ≡ table ⌝ }
     ensures { λ r. ⌜ r ≡ (sum * 2 + getD table b 0) % 2 ^ 32 ⌝ }
 {
-    std::num::wrapping_add_u32(std::num::wrapping_add_u32(sum, sum), entry(b))
+    std::num::wrapping_add_u32(std::num::wrapping_add_u32(sum, sum), entries[b as usize])
 }
 
 // The sum of the bytes from one place to another.
-fn stretch(bytes: &[u8], from: usize, to: usize) -> u32
-    requires { ⌜ (from ≤ to) × (to ≤ length (now bytes)) ⌝ }
+fn stretch(entries: &[u32; 256], bytes: &[u8], from: usize, to: usize) -> u32
+    requires { ⌜ (now entries ≡ table) × (from ≤ to) × (to ≤ length (now bytes)) ⌝ }
     ensures { λ r. ⌜ r ≡ sum (take (to - from) (drop from (now (bytes .entry)))) ⌝ }
 {
     let mut sum: u32 = 0;
     let mut at = from;
     while at < to {
-        sum = step(sum, bytes[at]);
+        sum = step(entries, sum, bytes[at]);
         at += 1;
     }
     sum
@@ -305,8 +307,8 @@ fn joined(high: u32, low: u32) -> u32
 
 // The sum of the 32 bytes before a place. Each step waits for the one before it, so four stretches of
 // eight bytes are summed side by side.
-fn last_32(bytes: &[u8], end: usize) -> u32
-    requires { ⌜ (32 ≤ end) × (end ≤ length (now bytes)) ⌝ }
+fn last_32(entries: &[u32; 256], bytes: &[u8], end: usize) -> u32
+    requires { ⌜ (now entries ≡ table) × (32 ≤ end) × (end ≤ length (now bytes)) ⌝ }
     ensures { λ r. ⌜ r ≡ sum (take 32 (drop (end - 32) (now (bytes .entry)))) ⌝ }
 {
     let mut first: u32 = 0;
@@ -315,25 +317,35 @@ fn last_32(bytes: &[u8], end: usize) -> u32
     let mut fourth: u32 = 0;
     let mut at = end - 32;
     while at < end - 24 {
-        first = step(first, bytes[at]);
-        second = step(second, bytes[at + 8]);
-        third = step(third, bytes[at + 16]);
-        fourth = step(fourth, bytes[at + 24]);
+        first = step(entries, first, bytes[at]);
+        second = step(entries, second, bytes[at + 8]);
+        third = step(entries, third, bytes[at + 16]);
+        fourth = step(entries, fourth, bytes[at + 24]);
         at += 1;
     }
     joined(joined(joined(first, second), third), fourth)
 }
 
-// The sum of the bytes before a place. It sums at most the last 32 of them, since no others show: each
-// byte doubles the sum, and 32 doublings leave nothing of it in 32 bits.
+// The sum of the bytes before a place, by a copy of the table's entries. It sums at most the last 32
+// bytes, since no others show: each byte doubles the sum, and 32 doublings leave nothing of it in 32
+// bits.
+pub fn sum_by(entries: &[u32; 256], bytes: &[u8], end: usize) -> u32
+    requires { ⌜ (now entries ≡ table) × (end ≤ length (now bytes)) ⌝ }
+    ensures { λ r. ⌜ r ≡ sum (take end (now (bytes .entry))) ⌝ }
+{
+    if end < 32 {
+        return stretch(entries, bytes, 0, end);
+    }
+    last_32(entries, bytes, end)
+}
+
+// The sum of the bytes before a place, by a copy of its own: at most the last 32 of them are summed.
 pub fn sum_to(bytes: &[u8], end: usize) -> u32
     requires { ⌜ end ≤ length (now bytes) ⌝ }
     ensures { λ r. ⌜ r ≡ sum (take end (now (bytes .entry))) ⌝ }
 {
-    if end < 32 {
-        return stretch(bytes, 0, end);
-    }
-    last_32(bytes, end)
+    let entries = entries();
+    sum_by(&entries, bytes, end)
 }
 
 // The Gear sum.

@@ -7,12 +7,12 @@ use Rattle.gear.proofs.last_32.Statement.{statement}
 use Rattle.gear.proofs.last_32.Tie as tie
 
 abbrev Inv-loop : tie.InvT-loop
-Inv-loop bytes end first₀ second₀ third₀ fourth₀ at₀ first second third fourth at =
+Inv-loop entries bytes end first₀ second₀ third₀ fourth₀ at₀ first second third fourth at =
     (at ≤ end - 24) × Summed bytes (end - 32) at first × Summed bytes (end - 24) (at + 8) second
     × Summed bytes (end - 16) (at + 16) third × Summed bytes (end - 8) (at + 24) fourth
 
 abbrev μ-loop : tie.MeasureT-loop
-μ-loop bytes end first₀ second₀ third₀ fourth₀ at₀ first second third fourth at = end - at
+μ-loop entries bytes end first₀ second₀ third₀ fourth₀ at₀ first second third fourth at = end - at
 
 sub-at : tie.Need-sub-at Inv-loop μ-loop
 sub-at c = search needs

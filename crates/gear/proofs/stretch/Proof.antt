@@ -7,10 +7,10 @@ use Rattle.gear.proofs.stretch.Statement.{statement}
 use Rattle.gear.proofs.stretch.Tie as tie
 
 abbrev Inv-loop : tie.InvT-loop
-Inv-loop bytes from to sum₀ at₀ sum at = (at ≤ to) × Summed bytes from at sum
+Inv-loop entries bytes from to sum₀ at₀ sum at = (at ≤ to) × Summed bytes from at sum
 
 abbrev μ-loop : tie.MeasureT-loop
-μ-loop bytes from to sum₀ at₀ sum at = to - at
+μ-loop entries bytes from to sum₀ at₀ sum at = to - at
 
 loop-holds : tie.Need-loop-holds Inv-loop μ-loop
 loop-holds c = (search needs, summed-none _ _ _ (search needs))
