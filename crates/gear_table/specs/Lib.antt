@@ -1,0 +1,2 @@
+-- Line is one line of the program's output.
+pub mod Line
