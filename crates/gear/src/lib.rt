@@ -2,7 +2,7 @@
 ghost use mathlib.Core.Path.{_≡_};
 ghost use Prim.Native.Nat.{_+_, _*_, _-_, _/_, _%_, _^_, _≤_, _<_};
 ghost use lib.ListN.{length, getD, take, drop};
-ghost use Rattle.gear.specs.Gear.{table, sum};
+ghost use Rattle.gear.specs.Gear.{table, sum, chain};
 ghost use Rattle.gear.specs.internal.After.{afterSum};
 
 // The chains of an index: one for each number of ten bits.
@@ -326,10 +326,9 @@ fn last_32(entries: &[u32; 256], bytes: &[u8], end: usize) -> u32
     joined(joined(joined(first, second), third), fourth)
 }
 
-// The sum of the bytes before a place, by a copy of the table's entries. It sums at most the last 32
-// bytes, since no others show: each byte doubles the sum, and 32 doublings leave nothing of it in 32
-// bits.
-pub fn sum_by(entries: &[u32; 256], bytes: &[u8], end: usize) -> u32
+// The sum of the bytes before a place. At most the last 32 of them are summed, since no others show: each byte doubles the
+// sum, and 32 doublings leave nothing of it in 32 bits.
+pub fn sum_to(entries: &[u32; 256], bytes: &[u8], end: usize) -> u32
     requires { ⌜ (now entries ≡ table) × (end ≤ length (now bytes)) ⌝ }
     ensures { λ r. ⌜ r ≡ sum (take end (now (bytes .entry))) ⌝ }
 {
@@ -337,22 +336,6 @@ pub fn sum_by(entries: &[u32; 256], bytes: &[u8], end: usize) -> u32
         return stretch(entries, bytes, 0, end);
     }
     last_32(entries, bytes, end)
-}
-
-// The sum of the bytes before a place, by a copy of its own: at most the last 32 of them are summed.
-pub fn sum_to(bytes: &[u8], end: usize) -> u32
-    requires { ⌜ end ≤ length (now bytes) ⌝ }
-    ensures { λ r. ⌜ r ≡ sum (take end (now (bytes .entry))) ⌝ }
-{
-    let entries = entries();
-    sum_by(&entries, bytes, end)
-}
-
-// The Gear sum.
-pub fn sum(bytes: &[u8]) -> u32
-    ensures { λ r. ⌜ r ≡ sum (now (bytes .entry)) ⌝ }
-{
-    sum_to(bytes, bytes.len())
 }
 
 // The sum of the last `size` bytes, from the sum of all of them and the sum of those before.
@@ -371,4 +354,13 @@ pub fn chain_of(sum: u32) -> usize
     ensures below { λ r. ⌜ r < 1024 ⌝ }
 {
     (sum >> 22) as usize
+}
+
+// The chain of some bytes.
+pub fn chain(entries: &[u32; 256], bytes: &[u8]) -> usize
+    requires { ⌜ now entries ≡ table ⌝ }
+    ensures chain { λ r. ⌜ r ≡ chain (now (bytes .entry)) ⌝ }
+    ensures below { λ r. ⌜ r < 1024 ⌝ }
+{
+    chain_of(sum_to(entries, bytes, bytes.len()))
 }

@@ -1,11 +1,11 @@
--- `gear::sum_by` meets its contract: no other bytes show than the last 32.
+-- `gear::sum_to` meets its contract: no other bytes show than the last 32.
 use Prim.Native.Nat.{_-_}
 use native.Mathlib.Omega.{arith}
 use mathlib.Core.Path.{_≡_, _∙_}
 use borrow.Author.Needs.{needs}
 use Rattle.gear.proofs.laws.Stretches.{last-32-show}
-use Rattle.gear.proofs.sum_by.Statement.{statement}
-use Rattle.gear.proofs.sum_by.Tie as tie
+use Rattle.gear.proofs.sum_to.Statement.{statement}
+use Rattle.gear.proofs.sum_to.Tie as tie
 
 stretch-requires : tie.Need-stretch-requires
 stretch-requires c κs = search needs
@@ -21,5 +21,5 @@ last-32-requires c κs = search needs
 returns-2 : tie.Need-returns-2
 returns-2 c = c .last-32 .ensures ∙ last-32-show _ (c .before .before .before .args .end) (search needs) (search needs)
 
-pub sum-by-spec : {M : Type 1} → statement M
-sum-by-spec = tie.close (tie.spec stretch-requires returns last-32-requires returns-2)
+pub sum-to-spec : {M : Type 1} → statement M
+sum-to-spec = tie.close (tie.spec stretch-requires returns last-32-requires returns-2)
