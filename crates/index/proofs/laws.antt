@@ -3,3 +3,7 @@ pub mod Trails
 pub mod Accepting
 pub mod Searching
 pub mod Entering
+pub mod Ordering
+pub mod Grounds
+pub mod chains
+pub mod order

@@ -1,8 +1,12 @@
 pub mod Positions
+pub mod Sizes
+pub mod Chains
+pub mod Appearances
 pub mod Marking
 pub mod Appearing
+pub mod Keeping
 pub mod Numbering
 pub mod Storing
-pub mod Keys
 pub mod Finding
+pub mod Following
 pub mod Settling

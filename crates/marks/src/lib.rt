@@ -1,140 +1,141 @@
 // The marks that stand in a recipe while a quote is under way: the search for a chunk among the job's earlier ones, and the
 // last pass, which turns marks into numbers. The layer below the survey of a job.
 ghost use mathlib.Core.Path.{_≡_};
-ghost use mathlib.Core.Bool.{true, false};
+ghost use mathlib.Core.Bool.{cond};
 ghost use mathlib.Core.List.{[], _++_};
-ghost use Prim.Native.Nat.{_+_, _%_, _≤_, _<_, _^_};
-ghost use lib.Dec.{leb};
-ghost use lib.ListN.{length, take, drop};
-ghost use Rattle.chunker.specs.Scanner.{windowAllowed};
+ghost use Prim.Native.Nat.{_+_, _/_, _%_, _≤_, _<_, _^_};
+ghost use lib.Dec.{eqb, leb};
+ghost use lib.ListN.{length, take, drop, set};
+ghost use Rattle.gear.specs.Gear.{chains, chain as chainOf};
 ghost use Rattle.store.specs.Limits.{jobLimit};
-ghost use Rattle.store.specs.Contents.{number};
-ghost use Rattle.marks.specs.Marks.{repeatMark, firstBase, keyOf, firstMark, firsts, settled};
-ghost use Rattle.marks.specs.internal.Places.{NoneOf, NextOfKey, FirstsIn, NamesEarlier};
+ghost use Rattle.store.specs.Contents.{number as numberOf};
+ghost use Rattle.marks.specs.Marks.{markOf, codeOf, sizeOf, repeatCode, firstBase, firstCode, sizes, firsts, settled};
+ghost use Rattle.marks.specs.internal.Places.{startStride, Linked, Heads, Starts, NamesEarlier};
 use directory::ChunkNumber;
 use store::JobPosition;
 
-// Marks below this are numbers of stored chunks; the others below `FIRST` name an earlier place.
+// A mark has the chunk's length below this, and above it a code.
+const MARK_BASE: u32 = 16386;
+
+// Codes below this are numbers of stored chunks; the others below `FIRST` name an earlier place.
 const REPEAT: u32 = 65536;
 
-// Marks from here on have a key, and below it a position in the job.
-const FIRST: u32 = 16777216;
+// Codes from here on are those of first appearances; they name the place before in the chunk's chain.
+const FIRST: u32 = 131072;
 
-// A key of a chunk, 1 to 255.
-fn key_of(chunk: &[u8]) -> u32
-    requires { ⌜ 1 ≤ length (now chunk) ⌝ }
-    requires { ⌜ length (now chunk) ≤ jobLimit ⌝ }
-    ensures { λ r. ⌜ r ≡ keyOf (now (chunk .entry)) ⌝ }
-{
-    let size = chunk.len();
-    let first = chunk[0] as usize;
-    let middle = chunk[size / 2] as usize;
-    let last = chunk[size - 1] as usize;
-    ((size + 31 * first + 7 * middle + 131 * last) % 255 + 1) as u32
-}
+// No place of a recipe is as large: it ends a chain.
+pub const NO_PLACE: u32 = 65535;
 
-// The mark of a chunk that appears for the first time.
-pub fn first(chunk: &[u8], at: JobPosition) -> u32
-    requires { ⌜ 1 ≤ length (now chunk) ⌝ }
-    requires { ⌜ length (now chunk) ≤ jobLimit ⌝ }
-    requires { ⌜ at .0 < jobLimit ⌝ }
-    ensures { λ r. ⌜ r ≡ firstMark (now (chunk .entry)) (at .0) ⌝ }
+// The positions of every 64th place's chunk are kept.
+const START_STRIDE: usize = 64;
+
+// The mark of a chunk that the store holds.
+pub fn stored(number: ChunkNumber, size: usize) -> u32
+    requires { ⌜ number .0 < 65536 ⌝ }
+    requires { ⌜ size < 16386 ⌝ }
+    ensures { λ r. ⌜ r ≡ markOf (number .0) size ⌝ }
 {
-    key_of(chunk) * FIRST + at.0
+    number.0 * MARK_BASE + size as u32
 }
 
 // The mark of a chunk that the job has at an earlier place.
-pub fn repeat(place: usize) -> u32
+pub fn repeat(place: usize, size: usize) -> u32
     requires { ⌜ place < 65536 ⌝ }
-    ensures { λ r. ⌜ r ≡ repeatMark place ⌝ }
+    requires { ⌜ size < 16386 ⌝ }
+    ensures { λ r. ⌜ r ≡ markOf (repeatCode place) size ⌝ }
 {
-    REPEAT + place as u32
+    (REPEAT + place as u32) * MARK_BASE + size as u32
+}
+
+// The mark of a chunk that appears for the first time; `earlier` is the last place of its chain.
+pub fn first(earlier: u32, size: usize) -> u32
+    requires { ⌜ earlier ≤ 65535 ⌝ }
+    requires { ⌜ size < 16386 ⌝ }
+    ensures { λ r. ⌜ r ≡ markOf (firstCode earlier) size ⌝ }
+{
+    (FIRST + earlier) * MARK_BASE + size as u32
+}
+
+// The length of a mark's chunk.
+pub fn size_of(mark: u32) -> usize
+    ensures { λ r. ⌜ r ≡ sizeOf mark ⌝ }
+{
+    (mark % MARK_BASE) as usize
+}
+
+// What a mark says of its chunk.
+fn code_of(mark: u32) -> u32
+    ensures { λ r. ⌜ r ≡ codeOf mark ⌝ }
+{
+    mark / MARK_BASE
 }
 
 // Whether a mark says that its chunk appears for the first time.
 pub fn is_first(mark: u32) -> bool
-    ensures { λ r. ⌜ r ≡ leb firstBase mark ⌝ }
+    ensures { λ r. ⌜ r ≡ leb firstBase (codeOf mark) ⌝ }
 {
-    FIRST <= mark
+    FIRST <= code_of(mark)
 }
 
-// The position of the chunk of a mark of a first appearance.
-pub fn position(mark: u32) -> JobPosition
-    ensures { λ r. ⌜ r .0 ≡ mark % firstBase ⌝ }
+// Keeps the position of a place's chunk where the place is one of every 64.
+pub fn note_start(starts: &mut [u32; 1024], place: usize, at: JobPosition)
+    requires { ⌜ place < 65536 ⌝ }
+    ensures { λ _. ⌜ now (starts .exit) ≡ cond (eqb (place % startStride) 0)
+        (set (now (starts .entry)) (place / startStride) (at .0)) (now (starts .entry)) ⌝ }
 {
-    JobPosition(mark % FIRST)
+    if place % START_STRIDE == 0 {
+        starts[place / START_STRIDE] = at.0;
+    }
 }
 
-// Whether one of 16 marks may have a key. All are compared, so that the compiler vectorises it.
-fn any_of_16(recipe: &[u32], from: usize, key: u32) -> bool
-    requires { ⌜ from + 16 ≤ length (now recipe) ⌝ }
-    ensures { λ r. ⌜ (r ≡ false → NoneOf (now (recipe .entry)) key from (from + 16)) ⌝ }
+// Where the chunk of a place starts in the job.
+fn start_of(starts: &[u32; 1024], recipe: &[u32], place: usize) -> usize
+    requires { ⌜ place < 65536 ⌝ }
+    requires { ⌜ place ≤ length (now recipe) ⌝ }
+    requires { ⌜ Starts (now recipe) (now starts) (place + 1) ⌝ }
+    requires { ⌜ sizes (take place (now recipe)) ≤ jobLimit ⌝ }
+    ensures { λ r. ⌜ r ≡ sizes (take place (now (recipe .entry))) ⌝ }
 {
-    let mut any = false;
-    let mut index = 0;
-    while index < 16 {
-        let mark = recipe[from + index];
+    let mut from = starts[place / START_STRIDE] as usize;
+    let mut index = place / START_STRIDE * START_STRIDE;
+    while index < place {
+        from += size_of(recipe[index]);
         index += 1;
-        if mark / FIRST == key {
-            any = true;
-        }
     }
-    any
+    from
 }
 
-// Passes blocks of 16 marks without the key.
-fn past_blocks(recipe: &[u32], from: usize, used: usize, key: u32) -> usize
-    requires { ⌜ from ≤ used ⌝ }
-    requires { ⌜ used ≤ length (now recipe) ⌝ }
-    ensures after { λ r. ⌜ from ≤ r ⌝ }
-    ensures within { λ r. ⌜ r ≤ used ⌝ }
-    ensures others { λ r. ⌜ NoneOf (now (recipe .entry)) key from r ⌝ }
-{
-    let mut place = from;
-    while place + 16 <= used {
-        if any_of_16(recipe, place, key) {
-            return place;
-        }
-        place += 16;
-    }
-    place
-}
-
-// The first place from `from` on, before `used`, whose mark has a key; `used` where there is none.
-fn next_of_key(recipe: &[u32], from: usize, used: usize, key: u32) -> usize
-    requires { ⌜ from ≤ used ⌝ }
-    requires { ⌜ used ≤ length (now recipe) ⌝ }
-    ensures { λ r. ⌜ NextOfKey (now (recipe .entry)) key from used r ⌝ }
-{
-    let mut place = past_blocks(recipe, from, used, key);
-    while place < used {
-        if recipe[place] / FIRST == key {
-            return place;
-        }
-        place += 1;
-    }
-    used
-}
-
-// The first of the first `used` places at which an equal chunk of the job appears; `used` where there is none.
-pub fn find(window: u32, recipe: &[u32], used: usize, job: &[u8], chunk: &[u8]) -> usize
-    requires { ⌜ windowAllowed window ≡ true ⌝ }
+// The first of the first `used` places at which an equal chunk of the job appears; `used` where there is none. Only the
+// places of the chunk's chain are looked at, the last one first.
+pub fn find(
+    heads: &[u32; 1024],
+    starts: &[u32; 1024],
+    recipe: &[u32],
+    used: usize,
+    job: &[u8],
+    chain: usize,
+    chunk: &[u8],
+) -> usize
     requires { ⌜ used ≤ length (now recipe) ⌝ }
     requires { ⌜ 1 ≤ length (now chunk) ⌝ }
-    requires { ⌜ length (now chunk) ≤ jobLimit ⌝ }
-    requires { ⌜ FirstsIn window (now job) (now recipe) used (length (now chunk)) ⌝ }
-    ensures { λ r. ⌜ r ≡ number (firsts window (now (job .entry)) (take used (now (recipe .entry)))) (now (chunk .entry)) ⌝ }
+    requires { ⌜ chain ≡ chainOf (now chunk) ⌝ }
+    requires { ⌜ chain < chains ⌝ }
+    requires { ⌜ length (now job) ≤ jobLimit ⌝ }
+    requires { ⌜ Linked (now job) (now recipe) used ⌝ }
+    requires { ⌜ Heads (now job) (now recipe) (now heads) used ⌝ }
+    requires { ⌜ Starts (now recipe) (now starts) used ⌝ }
+    ensures { λ r. ⌜ r ≡ numberOf (firsts (now (job .entry)) 0 (take used (now (recipe .entry)))) (now (chunk .entry)) ⌝ }
 {
-    let key = key_of(chunk);
-    let mut place = next_of_key(recipe, 0, used, key);
+    let mut place = heads[chain] as usize;
     while place < used {
-        let from = (recipe[place] % FIRST) as usize;
-        if search::stands_at(job, from, chunk) {
-            if chunker::next_chunk(window, &job[from..]) == chunk.len() {
+        let mark = recipe[place];
+        if size_of(mark) == chunk.len() {
+            let from = start_of(starts, recipe, place);
+            if search::stands_at(job, from, chunk) {
                 return place;
             }
         }
-        place = next_of_key(recipe, place + 1, used, key);
+        place = (code_of(mark) - FIRST) as usize;
     }
     used
 }
@@ -149,12 +150,14 @@ pub fn settle(recipe: &mut [u32], used: usize, chunks: ChunkNumber)
     let mut next = chunks.0;
     let mut place = 0;
     while place < used {
-        let mark = recipe[place];
-        if FIRST <= mark {
+        let code = code_of(recipe[place]);
+        if FIRST <= code {
             recipe[place] = next;
             next += 1;
-        } else if REPEAT <= mark {
-            recipe[place] = recipe[(mark - REPEAT) as usize];
+        } else if REPEAT <= code {
+            recipe[place] = recipe[(code - REPEAT) as usize];
+        } else {
+            recipe[place] = code;
         }
         place += 1;
     }

@@ -140,6 +140,12 @@ enter-met index held c room few met d l = step (eqb (chain c) d) refl
       λ k. rw (belongs-added held c d k, e) (met d l .2 k ∙ omega arith),
     )
 
+-- a number that is set at the front of a chunk's chain is entered
+pub entered-at : (index : List ℕ) (n d : ℕ) (c : List ℕ) → d ≡ chain c
+    → set (set index (chains + n) (headAt index d)) d n ≡ enter index n c
+unfolding enter
+entered-at index n d c e = rw e
+
 -- chunks that are entered in their order
 pub enter-all-length : (index : List ℕ) (n : ℕ) (cs : List (List ℕ)) → length (enterAll index n cs) ≡ length index
 unfolding enterAll

@@ -1,120 +1,160 @@
--- `marks::find` meets its contract: each turn passes the places that show another chunk.
-use Prim.Native.Nat.{_+_, _-_, _%_, _≤_}
+-- `marks::find` meets its contract: each turn passes a place of the chunk's chain that shows another chunk.
+use Prim.Native.Nat.{_≤_}
 use native.Mathlib.Omega.{arith}
 use mathlib.Core.Path.{_≡_, sym, _∙_}
 use mathlib.Core.Logic.{⊎-elim}
+use mathlib.Core.List.{[]}
 use borrow.Author.Needs.{needs}
 use lib.ListN.{length, getD}
-use Rattle.marks.specs.Marks.{firstBase, chunkFrom}
-use Rattle.marks.proofs.laws.Finding.{consumed-rest, shows-chunk, shows-length, shows-not}
-use Rattle.marks.proofs.laws.Finding.{Finding, finding-on, finding-none}
-use Rattle.marks.proofs.laws.Finding.{finding-inside, finding-here, finding-other}
+use Rattle.marks.specs.Marks.{codeOf, sizeOf, firstBase}
+use Rattle.marks.specs.internal.Places.{Linked}
+use Rattle.marks.proofs.laws.Sizes.{sizes-fewer}
+use Rattle.marks.proofs.laws.Finding.{shown, Finding, finding-starts, finding-none, head-small}
+use Rattle.marks.proofs.laws.Following.{says-first, finding-inside, other-size, other-bytes, finding-here, finding-on}
+use Rattle.marks.proofs.laws.Following.{left, finding-less}
 use Rattle.marks.proofs.find.Statement.{statement}
 use Rattle.marks.proofs.find.Tie as tie
 
 abbrev Inv-loop : tie.InvT-loop
-Inv-loop window recipe used job chunk key place₀ place = Finding window job recipe chunk used place
+Inv-loop heads starts recipe used job chain chunk place₀ place = Finding job recipe chunk used place
 
 abbrev μ-loop : tie.MeasureT-loop
-μ-loop window recipe used job chunk key place₀ place = used - place
+μ-loop heads starts recipe used job chain chunk place₀ place = left used place
+
+-- what holds where the function starts
+linked : (s : tie.Start Inv-loop μ-loop) → Linked (s .args .job .now) (s .args .recipe .now) (s .args .used)
+linked s = s .pre .1 .1 .1 .1 .1 .0
+
+begins : (s : tie.Start Inv-loop μ-loop) → let a = s .args in
+    Finding (a .job .now) (a .recipe .now) (a .chunk .now) (a .used) (getD (a .heads .now) (a .chain) 0)
+begins s =
+    let a = s .args in
+    finding-starts (a .job .now) (a .recipe .now) (a .used) (s .pre .0) (a .chunk .now) (a .heads .now) (a .chain)
+    (s .pre .1 .1 .1 .1 .1 .1 .0) (s .pre .1 .1 .0) (s .pre .1 .1 .1 .0)
 
 -- the place of the code where the function starts
-abbrev start-of : tie.At-loop Inv-loop μ-loop → tie.Start Inv-loop μ-loop
-start-of t = t .before .before .before .before .before .before
+abbrev start : tie.At-loop Inv-loop μ-loop → tie.Start Inv-loop μ-loop
+start t = t .before .before .before .before .before
 
-key-of-requires : tie.Need-key-of-requires Inv-loop μ-loop
-key-of-requires c κs = search needs
+mul-place : tie.Need-mul-place Inv-loop μ-loop
+mul-place c = search needs
 
-next-of-key-requires : tie.Need-next-of-key-requires Inv-loop μ-loop
-next-of-key-requires c κs = search needs
+element-copy-out-place : tie.Need-element-copy-out-place Inv-loop μ-loop
+element-copy-out-place c = search needs
+
+cast-place : tie.Need-cast-place Inv-loop μ-loop
+cast-place c =
+    let s = c .before .before .before .before in
+    let a = s .args in
+    let small = head-small (a .job .now) (a .recipe .now) (a .used) (s .pre .0) (linked s .few) in
+    omega (arith, small (a .heads .now) (a .chain) (s .pre .1 .1 .1 .1 .1 .1 .0) (s .pre .1 .1 .1 .0))
 
 loop-holds : tie.Need-loop-holds Inv-loop μ-loop
-loop-holds c =
-    let start = c .before .before .before .before .before in
-    finding-on (start .pre .1 .1 .1 .1) (start .pre .1 .1 .0) (c .before .key-of .ensures) (λ q l. absurd (omega arith))
-    (c .next-of-key .ensures)
+loop-holds c = begins (c .before .before .before .before)
 
-mul-from : tie.Need-mul-from Inv-loop μ-loop
-mul-from c = omega arith
+mul-mark : tie.Need-mul-mark Inv-loop μ-loop
+mul-mark c = omega arith
 
-shared-slice-read-from : tie.Need-shared-slice-read-from Inv-loop μ-loop
-shared-slice-read-from c = omega arith
+shared-slice-read-mark : tie.Need-shared-slice-read-mark Inv-loop μ-loop
+shared-slice-read-mark c = omega arith
 
-cast-from : tie.Need-cast-from Inv-loop μ-loop
-cast-from c = omega arith
+size-of-requires : tie.Need-size-of-requires Inv-loop μ-loop
+size-of-requires c κs = search needs
 
--- the job has as many bytes as the chunk from the position on
-inside : (c : tie.After-shared-slice-known4 Inv-loop μ-loop) → let turn = c .before .before in
-    let a = start-of turn .args in
-    getD (a .recipe .now) (turn .loop .place) 0 % firstBase + length (a .chunk .now) ≤ length (a .job .now)
-inside c =
-    let turn = c .before .before in
-    finding-inside (turn .loop .inv) (c .before .loop-test .taken) (start-of turn .pre .1 .1 .1 .1)
+start-of-requires : tie.Need-start-of-requires Inv-loop μ-loop
+start-of-requires c κs =
+    let turn = c .before .before .before .before in
+    let s = start turn in
+    let a = s .args in
+    let lower = sizes-fewer (a .recipe .now) (turn .loop .place) (a .used) (omega arith) in
+    let starts = s .pre .1 .1 .1 .1 .1 .1 .1 in (
+      omega (arith, linked s .few),
+      (
+        omega arith,
+        (
+          record { each = λ k l. starts .each k (omega arith) },
+          omega (arith, lower, linked s .inside, s .pre .1 .1 .1 .1 .0),
+        ),
+      ),
+    )
+
+-- a turn whose mark has the chunk's length
+sized : (c : tie.Then1 Inv-loop μ-loop) → let turn = c .before .before .before .before in
+    let a = start turn .args in
+    sizeOf (getD (a .recipe .now) (turn .loop .place) 0) ≡ length (a .chunk .now)
+sized c = sym (c .before .size-of .ensures) ∙ c .if1 .taken
 
 stands-at-requires : tie.Need-stands-at-requires Inv-loop μ-loop
-stands-at-requires c κs = inside c
-
-sub-next-chunk : tie.Need-sub-next-chunk Inv-loop μ-loop
-sub-next-chunk c = omega (arith, inside (c .before .before))
-
-part-next-chunk-start : tie.Need-part-next-chunk-start Inv-loop μ-loop
-part-next-chunk-start c = omega (arith, inside (c .before .before))
-
-part-next-chunk-end : tie.Need-part-next-chunk-end Inv-loop μ-loop
-part-next-chunk-end c = omega (arith, inside (c .before .before))
-
-next-chunk-requires : tie.Need-next-chunk-requires Inv-loop μ-loop
-next-chunk-requires c κs = search needs
+stands-at-requires c κs =
+    let turn = c .before .before .before .before .before in
+    let s = start turn in
+    let more = c .before .before .before .before .loop-test .taken in
+    omega (
+      arith,
+      c .start-of .ensures,
+      sized (c .before),
+      finding-inside (s .pre .0) (s .pre .1 .0) (linked s) (turn .loop .inv) more,
+    )
 
 returns : tie.Need-returns Inv-loop μ-loop
 returns c =
-    let call = c .before in
-    let then = call .before .before in
-    let stands = then .before in
-    let turn = stands .before .before .before in
-    let a = start-of turn .args in
-    let at = getD (a .recipe .now) (turn .loop .place) 0 % firstBase in
-    finding-here (turn .loop .inv) (stands .before .before .loop-test .taken) (start-of turn .pre .1 .0)
-    (shows-chunk (a .window) (a .job .now) (a .chunk .now) at (sym (stands .stands-at .ensures) ∙ then .if1 .taken)
-    (sym (consumed-rest (a .window) (a .job .now) at) ∙ sym (call .next-chunk .ensures) ∙ c .if2 .taken))
+    let stands = c .before in
+    let then = stands .before .before in
+    let turn = then .before .before .before .before in
+    let s = start turn in
+    let more = then .before .before .before .loop-test .taken in
+    let is = rw (stands .before .start-of .ensures) at (stands .stands-at .ensures) in
+    finding-here (s .pre .0) (s .pre .1 .0) (linked s) (turn .loop .inv) more (sized then) (sym is ∙ c .if2 .taken)
 
-add-next-of-key : tie.Need-add-next-of-key Inv-loop μ-loop
-add-next-of-key c = omega arith
+code-of-requires : tie.Need-code-of-requires Inv-loop μ-loop
+code-of-requires c κs = search needs
 
-next-of-key-requires-2 : tie.Need-next-of-key-requires-2 Inv-loop μ-loop
-next-of-key-requires-2 c κs = (omega arith, omega arith)
+-- the mark at the place says a first appearance
+says : (c : tie.In-loop Inv-loop μ-loop) → let turn = c .before in
+    firstBase ≤ codeOf (getD (start turn .args .recipe .now) (turn .loop .place) 0)
+says c =
+    let s = start (c .before) in
+    says-first (s .pre .0) (s .pre .1 .0) (linked s) (c .before .loop .inv) (c .loop-test .taken)
+
+sub-place : tie.Need-sub-place Inv-loop μ-loop
+sub-place c = omega (arith, c .code-of .ensures, says (c .before .before .before .before))
+
+cast-place-2 : tie.Need-cast-place-2 Inv-loop μ-loop
+cast-place-2 c = search needs
+
+-- a turn that does not end the search shows another chunk
+other : (c : tie.Joined1 Inv-loop μ-loop) → let turn = c .before .before .before .before in
+    let a = start turn .args in
+    getD (shown (a .job .now) (a .recipe .now) (a .used)) (turn .loop .place) [] ≡ a .chunk .now → ⊥
+other c =
+    let turn = c .before .before .before .before in
+    let s = start turn in
+    let more = c .before .before .before .loop-test .taken in
+    let size = c .before .size-of .ensures in
+    ⊎-elim
+    (λ both. other-bytes (s .pre .0) (s .pre .1 .0) (linked s) (turn .loop .inv) more (sym size ∙ both .0 .taken)
+    (sym (rw (both .1 .ensures) at (both .2 .ensures)) ∙ both .3 .left))
+    (λ kept. other-size (s .pre .0) (s .pre .1 .0) (linked s) (turn .loop .inv) more (λ e. kept .left (size ∙ e)))
+    (c .if1 .came)
 
 loop-less : tie.Need-loop-less Inv-loop μ-loop
-loop-less c = omega (arith, c .next-of-key2 .ensures .after)
-
--- a turn that does not end the search has another chunk at its position
-other : (c : tie.Joined1 Inv-loop μ-loop) → let turn = c .before .before .before .before in
-    let a = start-of turn .args in
-    chunkFrom (a .window) (a .job .now) (getD (a .recipe .now) (turn .loop .place) 0 % firstBase) ≡ a .chunk .now → ⊥
-other c =
-    let stands = c .before in
-    let turn = stands .before .before .before in
-    let start = start-of turn in
-    let a = start .args in
-    let at = getD (a .recipe .now) (turn .loop .place) 0 % firstBase in
-    let lies = inside (stands .before) in
-    let long = shows-length (a .window) (a .job .now) (a .chunk .now) at (start .pre .0) (start .pre .1 .1 .0) lies in
-    let not = shows-not (a .window) (a .job .now) (a .chunk .now) at (start .pre .0) (start .pre .1 .1 .0) lies in
-    ⊎-elim
-    (λ both p. both .3 .left (both .2 .ensures ∙ consumed-rest (a .window) (a .job .now) at ∙ long p))
-    (λ kept. not (sym (stands .stands-at .ensures) ∙ kept .left)) (c .if1 .came)
+loop-less c =
+    let turn = c .before .before .before .before .before in
+    let s = start turn in
+    let more = c .before .before .before .before .loop-test .taken in
+    rw (c .code-of .ensures)
+    (finding-less (s .pre .0) (s .pre .1 .0) (linked s) (turn .loop .inv) more (other (c .before)))
 
 loop-again : tie.Need-loop-again Inv-loop μ-loop
 loop-again c =
-    let stands = c .before .before in
-    let turn = stands .before .before .before in
-    let start = start-of turn in
-    finding-on (start .pre .1 .1 .1 .1) (start .pre .1 .1 .0) (turn .before .before .key-of .ensures)
-    (finding-other (turn .loop .inv) (stands .before .before .loop-test .taken) (other (c .before)))
-    (c .next-of-key2 .ensures)
+    let turn = c .before .before .before .before .before in
+    let s = start turn in
+    let more = c .before .before .before .before .loop-test .taken in
+    rw (c .code-of .ensures)
+    (finding-on (s .pre .0) (s .pre .1 .0) (linked s) (turn .loop .inv) more (other (c .before)))
 
 returns-2 : tie.Need-returns-2 Inv-loop μ-loop
-returns-2 c = finding-none (c .before .loop .inv) (start-of (c .before) .pre .1 .0) (c .loop-test .left)
+returns-2 c = finding-none (start (c .before) .pre .0) (start (c .before) .pre .1 .0) (c .before .loop .inv) (c .loop-test .left)
 
 pub find-spec : {M : Type 1} → statement M
 find-spec =
@@ -122,20 +162,19 @@ find-spec =
     (tie.spec
     Inv-loop
     μ-loop
-    key-of-requires
-    next-of-key-requires
+    mul-place
+    element-copy-out-place
+    cast-place
     loop-holds
-    mul-from
-    shared-slice-read-from
-    cast-from
+    mul-mark
+    shared-slice-read-mark
+    size-of-requires
+    start-of-requires
     stands-at-requires
-    sub-next-chunk
-    part-next-chunk-start
-    part-next-chunk-end
-    next-chunk-requires
     returns
-    add-next-of-key
-    next-of-key-requires-2
+    code-of-requires
+    sub-place
+    cast-place-2
     loop-less
     loop-again
     returns-2)

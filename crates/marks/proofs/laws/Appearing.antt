@@ -1,91 +1,92 @@
--- What marks say of a chunk that the store does not hold: where it appears in the job first.
-use Prim.Native.Nat.{ℕ, suc, _+_, _-_, _/_, _%_, _≤_, _<_}
+-- What the marks of a job's first chunks say: which of them appear for the first time, where they start, and what the
+-- functions may assume of them.
+use Prim.Native.Nat.{ℕ, _+_, _-_, _≤_, _<_}
 use native.Mathlib.Omega.{arith}
 use native.Mathlib.Nat.{zero-add}
-use mathlib.Core.Path.{_≡_, refl, sym, ap, _∙_}
-use mathlib.Core.Bool.{Bool, true, false, cond, true≢false}
+use mathlib.Core.Path.{_≡_, refl, sym, ap, ap₂, _∙_}
+use mathlib.Core.Bool.{true, false, cond, _||_, true≢false}
 use mathlib.Core.List.{List, [], _∷_, _++_}
-use lib.ListN.{length, getD, List·getD-append}
-use borrow.Author.Tests.{lt-ltb, le-ltb}
-use Rattle.store.specs.Contents.{same, number, has}
-use Rattle.store.proofs.laws.contents.Sameness.{same-equal}
-use Rattle.store.proofs.laws.contents.Growth.{has-append}
-use Rattle.marks.specs.Marks.{repeatBase, firstBase, keyOf, mark, marks, chunkFrom, firstAt, firsts}
-use Rattle.marks.proofs.laws.Positions.{StartsAt}
-use Rattle.marks.proofs.laws.Marking.{Marked, stored, repeats, appears, Places, places-on, place-start, place-marked}
-use Rattle.marks.proofs.laws.Marking.{Place, place-at, length-marks}
-use Rattle.marks.specs.internal.Places.{FirstsIn, NamesEarlier}
+use lib.ListN.{length, getD, take, List·getD-append}
+use lib.Seq.{take-at, getD-take}
+use Rattle.gear.specs.Gear.{chain}
 use Rattle.chunker.specs.Chunks.{total}
+use Rattle.store.specs.Contents.{number, has}
+use Rattle.store.proofs.laws.contents.Additions.{total-append}
+use Rattle.marks.specs.Marks.{codeOf, sizeOf, repeatBase, firstBase, firstCode, appearing, lastOf, mark, marks}
+use Rattle.marks.specs.Marks.{sizes, firstAt, firsts}
+use Rattle.marks.specs.internal.Places.{Linked, NamesEarlier}
+use Rattle.marks.proofs.laws.Positions.{StartsAt, total-within}
+use Rattle.marks.proofs.laws.Sizes.{first-none, first-some}
+use Rattle.marks.proofs.laws.Appearances.{appearing-here, appearing-before, appearing-among, number-appearing}
+use Rattle.marks.proofs.laws.Marking.{length-marks, Marked, stored, repeats, appears, size-marked}
+use Rattle.marks.proofs.laws.Marking.{Places, places-on, place-start, place-marked, Place, place-at}
 
--- a mark below the marks of first appearances says none
-pub first-none : (w : ℕ) (job : List ℕ) (m : ℕ) → m < firstBase → firstAt w job m ≡ []
-unfolding firstAt
-first-none w job m l = rw (lt-ltb m firstBase l)
+-- a mark shows its chunk where the chunk appears for the first time
+pub first-shown : {job : List ℕ} {held earlier : List (List ℕ)} {c : List ℕ} {m : ℕ} → StartsAt job (total earlier) c
+    → Marked held earlier c m → firstAt job (total earlier) m ≡ cond (has held c || has earlier c) [] c
+first-shown {job} {held} {earlier} {c} {m} s (stored h e l z) = rw (first-none job (total earlier) m (omega arith), h)
+first-shown {job} {held} {earlier} {c} {m} s (repeats h k e b l z) = rw (first-none job (total earlier) m l, h, k)
+first-shown {job} {held} {earlier} {c} {m} s (appears h k l e z) =
+    rw (first-some job (total earlier) m l, h, k, z) (s .is)
 
--- any other says the chunk at its position
-pub first-some : (w : ℕ) (job : List ℕ) (m : ℕ) → firstBase ≤ m → firstAt w job m ≡ chunkFrom w job (m % firstBase)
-unfolding firstAt
-first-some w job m l = rw (le-ltb m firstBase l)
+-- so marks in a row show the chunks that do
+pub firsts-marks : {w : ℕ} {job : List ℕ} {held : List (List ℕ)} (earlier ds rest : List (List ℕ))
+    → Places w job held earlier ds rest → firsts job (total earlier) (marks held earlier ds) ≡ appearing held earlier ds
+unfolding marks firsts appearing
+firsts-marks earlier [] rest p = refl
+firsts-marks {w} {job} {held} earlier (d ∷ ds) rest p =
+    let at : total earlier + sizeOf (mark held earlier d) ≡ total (earlier ++ (d ∷ [])) =
+    omega (arith, total-append earlier (d ∷ []), size-marked (place-marked p)) in
+    ap₂ (λ (f : List ℕ) (fs : List (List ℕ)). f ∷ fs) (first-shown (place-start p) (place-marked p))
+    (rw at (firsts-marks (earlier ++ (d ∷ [])) ds rest (places-on p)))
 
--- a chunk is not empty
-not-empty : (c : List ℕ) → 1 ≤ length c → same [] c ≡ false
-unfolding same
-not-empty [] l = absurd (omega arith)
-not-empty (b ∷ bs) l = refl
+-- and their bytes are the chunks'
+pub sizes-marks : {w : ℕ} {job : List ℕ} {held : List (List ℕ)} (earlier ds rest : List (List ℕ))
+    → Places w job held earlier ds rest → sizes (marks held earlier ds) ≡ total ds
+unfolding marks sizes
+sizes-marks earlier [] rest p = refl
+sizes-marks earlier (d ∷ ds) rest p =
+    omega (arith, size-marked (place-marked p), sizes-marks (earlier ++ (d ∷ [])) ds rest (places-on p))
 
-module _ (w : ℕ) (job : List ℕ) (held : List (List ℕ)) (c : List ℕ) (some : 1 ≤ length c) (new : has held c ≡ false) where
-  -- a chunk that is among chunks is not c where c is not
-  other : (cs : List (List ℕ)) (d : List ℕ) → has cs c ≡ false → has cs d ≡ true → same d c ≡ false
-  other cs d none among = by-test (same d c) refl
-    where
-      by-test : (t : Bool) → same d c ≡ t → t ≡ false
-      by-test true e = absurd (true≢false (sym among ∙ ap (has cs) (same-equal d c e) ∙ none))
-      by-test false e = refl
+-- the first place that shows a chunk which the store lacks is the first that has it
+pub number-firsts : (w : ℕ) (job : List ℕ) (held : List (List ℕ)) (c : List ℕ) → 1 ≤ length c → has held c ≡ false
+    → (earlier ds rest : List (List ℕ)) → Places w job held earlier ds rest → has earlier c ≡ false
+    → number (firsts job (total earlier) (marks held earlier ds)) c ≡ number ds c
+number-firsts w job held c some new earlier ds rest p none =
+    ap (λ fs. number fs c) (firsts-marks earlier ds rest p) ∙ number-appearing held c some new earlier ds none
 
-  -- the place of a chunk d shows c where the two are equal, as no earlier place has c
-  shows : (earlier : List (List ℕ)) (d : List ℕ) (m : ℕ) → has earlier c ≡ false → StartsAt w job (total earlier) d
-      → Marked held earlier d m → same (firstAt w job m) c ≡ same d c
-  shows earlier d m none starts (stored h e l) =
-      rw (first-none w job m (omega arith), not-empty c some) (sym (other held d new h))
-  shows earlier d m none starts (repeats h k e b l) =
-      rw (first-none w job m l, not-empty c some) (sym (other earlier d none k))
-  shows earlier d m none starts (appears h k l e at) = rw (first-some w job m l, at, starts .is)
+-- a chunk whose mark says a first appearance is new, and the mark names the last place of its chain
+pub record New (held before : List (List ℕ)) (c : List ℕ) (m : ℕ) : Type 0 where
+  pub lacks : has held c ≡ false
+  pub none : has before c ≡ false
+  pub link : codeOf m ≡ firstCode (lastOf (chain c) (appearing held [] before))
 
-  -- so the first place that shows c is the first that has it
-  pub number-firsts : (earlier ds rest : List (List ℕ)) → Places w job held earlier ds rest → has earlier c ≡ false
-      → number (firsts w job (marks held earlier ds)) c ≡ number ds c
-  unfolding marks number has
-  number-firsts earlier [] rest p none = refl
-  number-firsts earlier (d ∷ ds) rest p none =
-      let here = shows earlier d (mark held earlier d) none (place-start p) (place-marked p) in
-      rw here
-      (by-test (same d c) refl (λ e. number-firsts (earlier ++ (d ∷ [])) ds rest (places-on p) (later e)))
-    where
-      later : same d c ≡ false → has (earlier ++ (d ∷ [])) c ≡ false
-      later e = rw (has-append earlier (d ∷ []) c, none, e)
-
-      by-test : (t : Bool) → same d c ≡ t
-          → (same d c ≡ false → number (firsts w job (marks held (earlier ++ (d ∷ [])) ds)) c ≡ number ds c)
-          → cond t 0 (suc (number (firsts w job (marks held (earlier ++ (d ∷ [])) ds)) c)) ≡ cond t 0 (suc (number ds c))
-      by-test true e on = refl
-      by-test false e on = ap suc (on e)
-
--- a mark of a first appearance has the chunk's key and its position
-pub first-marked : {held before : List (List ℕ)} {c : List ℕ} {m : ℕ} → Marked held before c m → firstBase ≤ m
-    → (m / firstBase ≡ keyOf c) × (m % firstBase ≡ total before)
-first-marked (stored h e l) f = absurd (omega arith)
-first-marked (repeats h k e b l) f = absurd (omega arith)
-first-marked (appears h k l e at) f = (e, at)
+pub first-marked : {held before : List (List ℕ)} {c : List ℕ} {m : ℕ} → Marked held before c m → firstBase ≤ codeOf m
+    → New held before c m
+first-marked (stored h e l s) f = absurd (omega arith)
+first-marked (repeats h k e b l s) f = absurd (omega arith)
+first-marked (appears h k l e s) f = record { lacks = h; none = k; link = e }
 
 -- a mark of a repeated chunk names an earlier place
-repeat-marked : {held before : List (List ℕ)} {c : List ℕ} {m : ℕ} → Marked held before c m → repeatBase ≤ m
-    → m < firstBase → m - repeatBase < length before
-repeat-marked (stored h e l) r f = absurd (omega arith)
-repeat-marked (repeats h k e b l) r f = omega arith
-repeat-marked (appears h k l e at) r f = absurd (omega arith)
+repeat-marked : {held before : List (List ℕ)} {c : List ℕ} {m : ℕ} → Marked held before c m → repeatBase ≤ codeOf m
+    → codeOf m < firstBase → codeOf m - repeatBase < length before
+repeat-marked (stored h e l s) r f = absurd (omega arith)
+repeat-marked (repeats h k e b l s) r f = omega arith
+repeat-marked (appears h k l e s) r f = absurd (omega arith)
 
--- what the functions may assume of the places of a job's first chunks
 module _ (w : ℕ) (job : List ℕ) (held ds rest : List (List ℕ)) (p : Places w job held [] ds rest) (more : List ℕ) where
+  -- the recipe's first places
+  pub first-places : take (length ds) (marks held [] ds ++ more) ≡ marks held [] ds
+  first-places = take-at (marks held [] ds) more (length ds) (length-marks held [] ds)
+
+  -- the chunks that they show
+  pub recipe-firsts : firsts job 0 (take (length ds) (marks held [] ds ++ more)) ≡ appearing held [] ds
+  recipe-firsts = rw first-places (firsts-marks [] ds rest p)
+
+  -- the bytes of their chunks
+  pub recipe-sizes : sizes (take (length ds) (marks held [] ds ++ more)) ≡ total ds
+  recipe-sizes = rw first-places (sizes-marks [] ds rest p)
+
   -- the place q of the recipe
   pub recipe-place : (q : ℕ) → q < length ds → Place w job held (total ds) (getD (marks held [] ds ++ more) q 0) q
   recipe-place q l =
@@ -93,18 +94,43 @@ module _ (w : ℕ) (job : List ℕ) (held ds rest : List (List ℕ)) (p : Places
       rw (List·getD-append (marks held [] ds) more 0 q inside)
       (rw (zero-add q) at (place-at w job held [] ds rest p q l))
 
-  -- the search
-  pub firsts-in : (size : ℕ) → total ds + size ≤ length job
-      → FirstsIn w job (marks held [] ds ++ more) (length ds) size
-  firsts-in size room =
+  -- a place whose mark says a first appearance
+  record FirstPlace (q : ℕ) : Type 0 where
+    chunk : List ℕ
+    before : List (List ℕ)
+    some : 1 ≤ length chunk
+    is : New held before chunk (getD (marks held [] ds ++ more) q 0)
+    here : getD (appearing held [] ds) q [] ≡ chunk
+    earlier : take q (appearing held [] ds) ≡ appearing held [] before
+
+  first-place : (q : ℕ) → q < length ds → firstBase ≤ codeOf (getD (marks held [] ds ++ more) q 0) → FirstPlace q
+  first-place q l f =
+      let r = recipe-place q l in
+      let is = first-marked (r .marked) f in
+      let split : ds ++ rest ≡ r .before ++ (r .chunk ∷ r .after) = sym (p .whole) ∙ r .split in
       record {
-        key = λ q l h.
-            let r = recipe-place q l in
-            let m = first-marked (r .marked) h in
-            rw (m .1, r .starts .is) (m .0);
-        inside = λ q l h.
-            let r = recipe-place q l in
-            omega (arith, first-marked (r .marked) h .1, r .within);
+        chunk = r .chunk;
+        before = r .before;
+        some = r .starts .some;
+        is = is;
+        here =
+            appearing-here held ds rest (r .before) (r .after) (r .chunk) split q (r .at) l ∙ rw (is .lacks, is .none);
+        earlier = appearing-before held ds rest (r .before) (r .after) (r .chunk) split q (r .at) l;
+      }
+
+  -- the search
+  pub linked : Linked job (marks held [] ds ++ more) (length ds)
+  linked =
+      record {
+        links = λ q l f. let r = first-place q l f in rw (recipe-firsts, r .here, r .earlier) (r .is .link);
+        distinct = λ k q a l f e.
+            let r = first-place q l f in
+            let both : getD (appearing held [] ds) k [] ≡ getD (appearing held [] ds) q [] = rw recipe-firsts at e in
+            let first = getD-take q (appearing held [] ds) k [] a ∙ both ∙ r .here in
+            let again = appearing-among held (r .chunk) (r .some) [] (r .before) k (rw (r .earlier) at first) in
+            true≢false (sym again ∙ r .is .none);
+        inside = omega (arith, recipe-sizes, total-within w (p .allowed) ds job rest (p .whole));
+        few = p .short;
       }
 
   -- the last pass

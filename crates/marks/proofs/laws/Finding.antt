@@ -1,143 +1,97 @@
--- A search among the marks of a recipe, under way: no place that was passed shows the chunk.
-use Prim.Native.Nat.{ℕ, zero, suc, _+_, _-_, _%_, _≤_, _<_}
+-- A search along a chain of a recipe's places, under way: no place that was passed shows the chunk.
+use Prim.Native.Nat.{ℕ, zero, suc, _≤_, _<_}
 use native.Mathlib.Omega.{arith}
 use native.Mathlib.Decide.{decLt}
-use mathlib.Core.Path.{_≡_, ap, sym, _∙_}
+use mathlib.Core.Path.{_≡_, refl, sym, ap, _∙_}
 use mathlib.Core.Bool.{true, false, true≢false}
-use mathlib.Core.List.{List, [], _∷_, map}
-use lib.ListN.{length, getD, take, drop, length-drop}
+use mathlib.Core.List.{List, [], _∷_}
+use lib.ListN.{length, getD, take}
 use lib.Seq.{getD-take, length-take-le, take-all}
-use borrow.Author.Count.{below-more}
-use borrow.Author.Tests.{lt-ltb, le-ltb}
-use Rattle.scan.specs.Scanner.{fresh}
-use Rattle.chunker.specs.Scanner.{windowAllowed}
-use Rattle.chunker.specs.Answers.{fed}
-use Rattle.chunker.proofs.laws.NextChunk.{next-chunk}
-use Rattle.store.specs.Contents.{same, number}
-use Rattle.store.proofs.laws.contents.Sameness.{same-equal, equal-same, same-other}
-use Rattle.marks.specs.Marks.{firstBase, keyOf, chunkFrom, firstAt, firsts}
-use Rattle.marks.specs.internal.Places.{HasKey, NextOfKey, FirstsIn}
-use Rattle.marks.proofs.laws.Keys.{key-bounds}
+use Rattle.gear.specs.Gear.{chains, chain}
+use Rattle.store.specs.Contents.{number}
+use Rattle.store.proofs.laws.contents.Sameness.{equal-same, same-other}
+use Rattle.marks.specs.Marks.{noPlace, ofChain, lastOf, firsts}
+use Rattle.marks.specs.internal.Places.{Heads}
+use Rattle.marks.proofs.laws.Sizes.{length-firsts}
+use Rattle.marks.proofs.laws.Chains.{of-own, Last, nowhere, place, last-from, last-small}
 
 -- the number of a chunk is the first place that shows it, or the count
-number-at : (f : ℕ → List ℕ) (ms chunk : List ℕ) (r : ℕ) → r ≤ length ms
-    → ((q : ℕ) → q < r → f (getD ms q 0) ≡ chunk → ⊥) → (r < length ms → f (getD ms r 0) ≡ chunk)
-    → r ≡ number (map f ms) chunk
+pub number-at : (fs : List (List ℕ)) (chunk : List ℕ) (r : ℕ) → r ≤ length fs
+    → ((q : ℕ) → q < r → getD fs q [] ≡ chunk → ⊥) → (r < length fs → getD fs r [] ≡ chunk) → r ≡ number fs chunk
 unfolding number
-number-at f [] chunk r h others has = omega arith
-number-at f (m ∷ ms) chunk zero h others has = rw (equal-same (f m) chunk (has (omega arith)))
-number-at f (m ∷ ms) chunk (suc r) h others has =
-    rw (same-other (f m) chunk (others 0 (omega arith)))
-    (ap suc (number-at f ms chunk r (omega arith) (λ q l. others (suc q) (omega arith)) (λ l. has (omega arith))))
+number-at [] chunk r h others is = omega arith
+number-at (f ∷ fs) chunk zero h others is = rw (equal-same f chunk (is (omega arith)))
+number-at (f ∷ fs) chunk (suc r) h others is =
+    rw (same-other f chunk (others 0 (omega arith)))
+    (ap suc (number-at fs chunk r (omega arith) (λ q l. others (suc q) (omega arith)) (λ l. is (omega arith))))
 
--- a mark that says no first appearance shows nothing
-shows-none : (w : ℕ) (job : List ℕ) (m : ℕ) → m < firstBase → firstAt w job m ≡ []
-unfolding firstAt
-shows-none w job m h = rw (lt-ltb m firstBase h)
+-- the chunks that the places show
+abbrev pub shown : List ℕ → List ℕ → ℕ → List (List ℕ)
+shown job recipe used = firsts job 0 (take used recipe)
 
--- one that does shows the chunk at its position
-shows-first : (w : ℕ) (job : List ℕ) (m : ℕ) → firstBase ≤ m → firstAt w job m ≡ chunkFrom w job (m % firstBase)
-unfolding firstAt
-shows-first w job m h = rw (le-ltb m firstBase h)
+-- the place at hand is the last one of the chain before some bound, and no place from the bound on shows the chunk
+pub record Finding (job recipe chunk : List ℕ) (used r : ℕ) : Type 0 where
+  pub bound : ℕ
+  pub within : bound ≤ used
+  pub last : r ≡ lastOf (chain chunk) (take bound (shown job recipe used))
+  pub others : (q : ℕ) → bound ≤ q → q < used → getD (shown job recipe used) q [] ≡ chunk → ⊥
 
--- a mark with a chunk's key says a first appearance
-key-first : (chunk : List ℕ) (m : ℕ) → HasKey (keyOf chunk) m → firstBase ≤ m
-key-first chunk m h = omega (arith, key-bounds chunk .0)
+module _ (job recipe : List ℕ) (used : ℕ) (inside : used ≤ length recipe) where
+  -- as many as places
+  pub shown-length : length (shown job recipe used) ≡ used
+  shown-length = length-firsts job 0 (take used recipe) ∙ length-take-le used recipe inside
 
--- the part of a job that the code hands on is all that is left
-pub consumed-rest : (w : ℕ) (job : List ℕ) (at : ℕ) → fed (fresh w) (take (length job - at) (drop at job)) .consumed
-    ≡ fed (fresh w) (drop at job) .consumed
-consumed-rest w job at =
-    let left : length (drop at job) ≡ length job - at = length-drop at job in
-    rw (take-all (length job - at) (drop at job) (omega arith))
+  -- the search starts at the head of the chunk's chain
+  pub finding-starts : (chunk heads : List ℕ) (c : ℕ) → Heads job recipe heads used → c ≡ chain chunk → c < chains
+      → Finding job recipe chunk used (getD heads c 0)
+  finding-starts chunk heads c h e l =
+      record {
+        bound = used;
+        within = omega arith;
+        last = h .each c l ∙ rw (e, take-all used (shown job recipe used) (omega (arith, shown-length)));
+        others = λ q a b. absurd (omega arith);
+      }
 
-module _ (w : ℕ) (job chunk : List ℕ) (at : ℕ) where
-  -- the chunk stands at the position, and the chunk there has its length
-  pub shows-chunk : same (take (length chunk) (drop at job)) chunk ≡ true
-      → fed (fresh w) (drop at job) .consumed ≡ length chunk → chunkFrom w job at ≡ chunk
-  shows-chunk e l = rw l (same-equal _ _ e)
+  -- and the head fits
+  pub head-small : used ≤ noPlace → (heads : List ℕ) (c : ℕ) → Heads job recipe heads used → c < chains → getD heads c 0 ≤ noPlace
+  head-small few heads c h l =
+      omega (arith, h .each c l, last-small c (shown job recipe used) (omega (arith, shown-length)))
 
-  module _ (allowed : windowAllowed w ≡ true) (some : 1 ≤ length chunk) (inside : at + length chunk ≤ length job) where
-    -- a chunk that is there has as many bytes as were consumed
-    pub shows-length : chunkFrom w job at ≡ chunk → fed (fresh w) (drop at job) .consumed ≡ length chunk
-    shows-length p =
-        let left = length-drop at job in
-        let next = next-chunk w allowed (drop at job) (omega arith) in
-        let size = sym (length-take-le (fed (fresh w) (drop at job) .consumed) (drop at job) (next .within)) in
-        size ∙ ap length p
+-- what the search may still look at
+abbrev pub before : {job recipe chunk : List ℕ} {used r : ℕ} → Finding job recipe chunk used r → List (List ℕ)
+before {job} {recipe} {used = used} s = take (s .bound) (shown job recipe used)
 
-    -- the chunk does not stand there
-    pub shows-not : same (take (length chunk) (drop at job)) chunk ≡ false → chunkFrom w job at ≡ chunk → ⊥
-    shows-not e p =
-        let here : take (length chunk) (drop at job) ≡ chunk = rw (← shows-length p) p in
-        true≢false (sym (equal-same _ _ here) ∙ e)
+module _ {job recipe chunk : List ℕ} {used r : ℕ} (inside : used ≤ length recipe) (s : Finding job recipe chunk used r) where
+  pub before-length : length (before s) ≡ s .bound
+  before-length =
+      length-take-le (s .bound) (shown job recipe used)
+      (omega (arith, shown-length job recipe used inside, s .within))
 
--- no place before this one shows the chunk, and its mark has the key of the chunk
-pub record Finding (w : ℕ) (job recipe chunk : List ℕ) (used place : ℕ) : Type 0 where
-  pub within : place ≤ used
-  pub others : (q : ℕ) → q < place → firstAt w job (getD recipe q 0) ≡ chunk → ⊥
-  pub candidate : place < used → HasKey (keyOf chunk) (getD recipe place 0)
-
-module _ {w used : ℕ} {job recipe chunk : List ℕ} (f : FirstsIn w job recipe used (length chunk)) (some : 1 ≤ length chunk)
-  where
-    -- a place whose mark has another key shows another chunk
-    other-key : (q : ℕ) → q < used → (HasKey (keyOf chunk) (getD recipe q 0) → ⊥)
-        → firstAt w job (getD recipe q 0) ≡ chunk → ⊥
-    other-key q h other p =
-        elim (decLt (getD recipe q 0) firstBase) [
-          | yes l ↦ let none : 0 ≡ length chunk = ap length (sym (shows-none w job _ l) ∙ p) in absurd (omega arith)
-          | no l ↦ let first : firstBase ≤ getD recipe q 0 = omega arith in
-              other (rw (sym (shows-first w job _ first) ∙ p) at (f .key q h first))
-        ]
-
-    -- the search goes on at the next mark with the key
-    pub finding-on : {from r key : ℕ} → key ≡ keyOf chunk
-        → ((q : ℕ) → q < from → firstAt w job (getD recipe q 0) ≡ chunk → ⊥)
-        → NextOfKey recipe key from used r → Finding w job recipe chunk used r
-    finding-on {from} e others next =
-        record {
-          within = next .within;
-          others = λ q l. elim (decLt q from) [
-            | yes h ↦ others q h
-            | no h ↦ other-key q (omega (arith, next .within)) (λ k. next .others .each q l (omega arith) (k ∙ sym e))
-          ];
-          candidate = λ l. next .has l ∙ e;
-        }
-
-module _ {w : ℕ} {job recipe chunk : List ℕ} {used place : ℕ} (s : Finding w job recipe chunk used place) where
-  -- the place shows the chunk, or there is none
-  finding-ends : used ≤ length recipe → (place < used → firstAt w job (getD recipe place 0) ≡ chunk)
-      → place ≡ number (firsts w job (take used recipe)) chunk
-  finding-ends h has =
-      let size = length-take-le used recipe h in
-      number-at (firstAt w job) (take used recipe) chunk place (omega (arith, s .within))
-      (λ q l. rw (getD-take used recipe q 0 (omega (arith, s .within))) (s .others q l))
-      (λ l. rw (getD-take used recipe place 0 (omega arith)) (has (omega arith)))
+module _ {job recipe chunk : List ℕ} {used r : ℕ} (inside : used ≤ length recipe) (some : 1 ≤ length chunk)
+    (s : Finding job recipe chunk used r) where
+  -- a place before the bound that shows the chunk is of its chain
+  pub chain-met : (q : ℕ) → q < s .bound → getD (shown job recipe used) q [] ≡ chunk
+      → ofChain (chain chunk) (getD (before s) q []) ≡ true
+  chain-met q l e =
+      rw (getD-take (s .bound) (shown job recipe used) q [] l, e) (of-own chunk (chain chunk) some refl)
 
   -- no place is left
-  pub finding-none : used ≤ length recipe → used ≤ place → used ≡ number (firsts w job (take used recipe)) chunk
-  finding-none h l =
-      let here : used ≡ place = omega (arith, s .within) in
-      here ∙ finding-ends h (λ m. absurd (omega arith))
+  pub finding-none : used ≤ r → used ≡ number (shown job recipe used) chunk
+  finding-none h = by-last (last-from (chain chunk) 0 noPlace (before s))
+    where
+      count : length (shown job recipe used) ≡ used
+      count = shown-length job recipe used inside
 
-  module _ (more : place < used) where
-    -- the mark says a first appearance
-    says-first : firstBase ≤ getD recipe place 0
-    says-first = key-first chunk _ (s .candidate more)
+      all : ((q : ℕ) → q < length (before s) → ofChain (chain chunk) (getD (before s) q []) ≡ false)
+          → (q : ℕ) → q < used → getD (shown job recipe used) q [] ≡ chunk → ⊥
+      all none q l e =
+          elim (decLt q (s .bound)) [
+            | yes b ↦ true≢false (sym (chain-met q b e) ∙ none q (omega (arith, before-length inside s)))
+            | no b ↦ s .others q (omega arith) l e
+          ]
 
-    -- the job has as many bytes from its position on
-    pub finding-inside : FirstsIn w job recipe used (length chunk)
-        → getD recipe place 0 % firstBase + length chunk ≤ length job
-    finding-inside f = f .inside place more says-first
-
-    -- the chunk is at its position
-    pub finding-here : used ≤ length recipe → chunkFrom w job (getD recipe place 0 % firstBase) ≡ chunk
-        → place ≡ number (firsts w job (take used recipe)) chunk
-    finding-here h p = finding-ends h (λ _. shows-first w job _ says-first ∙ p)
-
-    -- another chunk is
-    pub finding-other : (chunkFrom w job (getD recipe place 0 % firstBase) ≡ chunk → ⊥)
-        → (q : ℕ) → q < place + 1 → firstAt w job (getD recipe q 0) ≡ chunk → ⊥
-    finding-other other =
-        below-more (λ q. firstAt w job (getD recipe q 0) ≡ chunk → ⊥) place (s .others)
-        (λ p. other (sym (shows-first w job _ says-first) ∙ p))
+      by-last : Last (chain chunk) 0 noPlace (before s) (lastOf (chain chunk) (before s))
+          → used ≡ number (shown job recipe used) chunk
+      by-last (nowhere e none) =
+          number-at (shown job recipe used) chunk used (omega (arith, count)) (all none) (λ l. absurd (omega (arith, count)))
+      by-last (place p e b o none) = absurd (omega (arith, s .last, before-length inside s, s .within))

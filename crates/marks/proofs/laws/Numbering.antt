@@ -11,7 +11,7 @@ use Rattle.store.specs.Contents.{number, has, gain, grown, numbers}
 use Rattle.store.proofs.laws.contents.Numbering.{number-next, chunk-at-number}
 use Rattle.store.proofs.laws.contents.Growth.{has-grown, number-grown, grown-append}
 use Rattle.store.proofs.laws.contents.Additions.{numbers-after, numbers-append}
-use Rattle.marks.specs.Marks.{repeatBase, firstBase, mark, marks, settledMark, settled}
+use Rattle.marks.specs.Marks.{codeOf, repeatBase, firstBase, mark, marks, settledMark, settled}
 use Rattle.marks.proofs.laws.Marking.{Marked, stored, repeats, appears, Places, places-on, place-marked}
 
 -- the number at a place is that of the chunk there
@@ -23,34 +23,36 @@ getD-map f (c ∷ cs) (suc n) l = getD-map f cs n (omega arith)
 -- what one mark comes to: the chunk's number, and the next new chunk's
 record Settles (held earlier : List (List ℕ)) (c : List ℕ) (m : ℕ) : Type 0 where
   value : settledMark (length (grown held earlier)) (numbers held earlier) m ≡ number (grown held earlier) c
-  next : cond (ltb m firstBase) (length (grown held earlier)) (length (grown held earlier) + 1)
+  next : cond (ltb (codeOf m) firstBase) (length (grown held earlier)) (length (grown held earlier) + 1)
       ≡ length (gain (grown held earlier) c)
 
 -- by the three things that it may say
 settles : (held earlier : List (List ℕ)) (c : List ℕ) (m : ℕ) → Marked held earlier c m → Settles held earlier c m
 unfolding gain
-settles held earlier c m (stored h e l) =
+settles held earlier c m (stored h e l s) =
     let known : has (grown held earlier) c ≡ true = rw (has-grown held earlier c, h) in
     record {
-      value = rw (lt-ltb m repeatBase l) (e ∙ sym (number-grown held earlier c h));
-      next = rw (lt-ltb m firstBase (omega arith), known);
+      value = rw (lt-ltb (codeOf m) repeatBase l) (e ∙ sym (number-grown held earlier c h));
+      next = rw (lt-ltb (codeOf m) firstBase (omega arith), known);
     }
-settles held earlier c m (repeats h k e b l) =
+settles held earlier c m (repeats h k e b l s) =
     let known : has (grown held earlier) c ≡ true = rw (has-grown held earlier c, h, k) in
     let n = number earlier c in
-    let place : m - repeatBase ≡ n = omega arith in
+    let place : codeOf m - repeatBase ≡ n = omega arith in
     let after = number (grown held earlier) in
     let told : getD (numbers held earlier) n 0 ≡ after c =
     ap (λ ns. getD ns n 0) (numbers-after held earlier) ∙ getD-map after earlier n b ∙ ap after (chunk-at-number earlier c k) in
     record {
-      value = rw (le-ltb m repeatBase (omega arith), lt-ltb m firstBase l, place) told;
-      next = rw (lt-ltb m firstBase l, known);
+      value = rw (le-ltb (codeOf m) repeatBase (omega arith), lt-ltb (codeOf m) firstBase l, place) told;
+      next = rw (lt-ltb (codeOf m) firstBase l, known);
     }
-settles held earlier c m (appears h k l e at) =
+settles held earlier c m (appears h k l e s) =
     let new : has (grown held earlier) c ≡ false = rw (has-grown held earlier c, h, k) in
     record {
-      value = rw (le-ltb m repeatBase (omega arith), le-ltb m firstBase l) (sym (number-next (grown held earlier) c new));
-      next = rw (le-ltb m firstBase l, new, length-append (grown held earlier) (c ∷ []));
+      value =
+          rw (le-ltb (codeOf m) repeatBase (omega arith), le-ltb (codeOf m) firstBase l)
+          (sym (number-next (grown held earlier) c new));
+      next = rw (le-ltb (codeOf m) firstBase l, new, length-append (grown held earlier) (c ∷ []));
     }
 
 -- the store after one chunk more

@@ -4,13 +4,13 @@ use native.Mathlib.Omega.{arith}
 use native.Mathlib.Nat.{add-zero, sub-zero}
 use native.Mathlib.Numerals.{add-one}
 use mathlib.Core.Path.{_≡_, refl, ap, sym, _∙_}
-use mathlib.Core.Bool.{cond}
+use mathlib.Core.Bool.{true, cond}
 use mathlib.Core.List.{List, [], _∷_, _++_}
 use lib.Dec.{ltb}
 use lib.ListN.{length, getD, take, drop, set, length-set, take-append-drop}
-use lib.Seq.{take-suc-set, drop-set-lt, drop-drop, drop-cons, append-snoc, getD-take, getD-drop, set-getD}
+use lib.Seq.{take-suc-set, drop-set-lt, drop-drop, drop-cons, append-snoc, getD-take, getD-drop}
 use borrow.Author.Tests.{lt-ltb, le-ltb}
-use Rattle.marks.specs.Marks.{repeatBase, firstBase, settledMark, settled}
+use Rattle.marks.specs.Marks.{codeOf, repeatBase, firstBase, settledMark, settled}
 use Rattle.marks.specs.internal.Places.{NamesEarlier}
 
 -- what is still to do at a place gives what was asked at the start
@@ -42,7 +42,7 @@ settling-none recipe used chunks h room names =
 -- the next of marks in a row
 settled-next : (next : ℕ) (done : List ℕ) (m : ℕ) (ms : List ℕ) → settled next done (m ∷ ms)
     ≡ settledMark next done m
-    ∷ settled (cond (ltb m firstBase) next (next + 1)) (done ++ (settledMark next done m ∷ [])) ms
+    ∷ settled (cond (ltb (codeOf m) firstBase) next (next + 1)) (done ++ (settledMark next done m ∷ [])) ms
 unfolding settled
 settled-next next done m ms = refl
 
@@ -53,7 +53,7 @@ settled-none next done = refl
 
 -- the number of the next mark moves to those that are done
 number-moves : (next : ℕ) (done : List ℕ) (m : ℕ) (ms after : List ℕ) (v n : ℕ) → v ≡ settledMark next done m
-    → n ≡ cond (ltb m firstBase) next (next + 1)
+    → n ≡ cond (ltb (codeOf m) firstBase) next (next + 1)
     → done ++ (v ∷ []) ++ (settled n (done ++ (v ∷ [])) ms ++ after) ≡ done ++ (settled next done (m ∷ ms) ++ after)
 number-moves next done m ms after v n e f = rw (settled-next next done m ms, ← e, ← f) (append-snoc done v _)
 
@@ -79,7 +79,7 @@ module _ {recipe₀ recipe : List ℕ} {used chunks next place : ℕ} (s : Settl
 
     -- the place gets its number
     settling-more : (v n : ℕ) → v ≡ settledMark next (take place recipe) (getD recipe place 0)
-        → n ≡ cond (ltb (getD recipe place 0) firstBase) next (next + 1) → n ≤ next + 1
+        → n ≡ cond (ltb (codeOf (getD recipe place 0)) firstBase) next (next + 1) → n ≤ next + 1
         → Settling recipe₀ used chunks (set recipe place v) n (place + 1)
     settling-more v n e f l =
         let left : used - place ≡ suc (used - suc place) = omega arith in
@@ -100,33 +100,35 @@ module _ {recipe₀ recipe : List ℕ} {used chunks next place : ℕ} (s : Settl
           gives = rw (add-one, done, same-later, same-after) (moves ∙ rw (left, first) at (s .gives));
         }
 
-    -- a first appearance gets the next number
-    pub settling-first : firstBase ≤ getD recipe place 0
-        → Settling recipe₀ used chunks (set recipe place next) (next + 1) (place + 1)
-    settling-first h =
-        let tested = le-ltb (getD recipe place 0) firstBase h in
-        settling-more next (next + 1) (rw (le-ltb (getD recipe place 0) repeatBase (omega arith), tested)) (rw tested)
-        (omega arith)
+    -- the code of its mark
+    module _ (code : ℕ) (is : code ≡ codeOf (getD recipe place 0)) where
+      -- a first appearance gets the next number
+      pub settling-first : firstBase ≤ code → Settling recipe₀ used chunks (set recipe place next) (next + 1) (place + 1)
+      settling-first h =
+          let tested = le-ltb (codeOf (getD recipe place 0)) firstBase (omega arith) in
+          settling-more next (next + 1)
+          (rw (le-ltb (codeOf (getD recipe place 0)) repeatBase (omega arith), tested)) (rw tested) (omega arith)
 
-    module _ (h : getD recipe place 0 < firstBase) where
-      -- the place that a mark names is before its own
-      pub names-earlier : repeatBase ≤ getD recipe place 0 → getD recipe place 0 - repeatBase < place
-      names-earlier g =
-          omega (arith, mark-kept, s .names .each place more (omega (arith, mark-kept)) (omega (arith, mark-kept)))
+      module _ (h : code < firstBase) where
+        -- the place that a mark names is before its own
+        pub names-earlier : repeatBase ≤ code → code - repeatBase < place
+        names-earlier g =
+            omega (arith, mark-kept, s .names .each place more (omega (arith, mark-kept)) (omega (arith, mark-kept)))
 
-      -- one that names an earlier place gets the number there
-      pub settling-repeat : repeatBase ≤ getD recipe place 0
-          → Settling recipe₀ used chunks (set recipe place (getD recipe (getD recipe place 0 - repeatBase) 0)) next
-          (place + 1)
-      settling-repeat g =
-          settling-more _ next
-          (rw (le-ltb (getD recipe place 0) repeatBase g, lt-ltb (getD recipe place 0) firstBase h)
-          (sym (getD-take place recipe _ 0 (names-earlier g))))
-          (rw (lt-ltb (getD recipe place 0) firstBase h)) (omega arith)
+        known : ltb (codeOf (getD recipe place 0)) firstBase ≡ true
+        known = lt-ltb (codeOf (getD recipe place 0)) firstBase (omega arith)
 
-      -- a number of a stored chunk stays
-      pub settling-stored : getD recipe place 0 < repeatBase → Settling recipe₀ used chunks recipe next (place + 1)
-      settling-stored g =
-          rw (set-getD recipe place 0) at
-          (settling-more (getD recipe place 0) next (rw (lt-ltb (getD recipe place 0) repeatBase g))
-          (rw (lt-ltb (getD recipe place 0) firstBase h)) (omega arith))
+        -- one that names an earlier place gets the number there
+        pub settling-repeat : repeatBase ≤ code
+            → Settling recipe₀ used chunks (set recipe place (getD recipe (code - repeatBase) 0)) next (place + 1)
+        settling-repeat g =
+            settling-more _ next
+            (rw (le-ltb (codeOf (getD recipe place 0)) repeatBase (omega arith), known, ← is)
+            (sym (getD-take place recipe _ 0 (names-earlier g))))
+            (rw known) (omega arith)
+
+        -- one of a stored chunk gets the number that its code is
+        pub settling-stored : code < repeatBase → Settling recipe₀ used chunks (set recipe place code) next (place + 1)
+        settling-stored g =
+            settling-more code next (rw (lt-ltb (codeOf (getD recipe place 0)) repeatBase (omega arith)) is) (rw known)
+            (omega arith)

@@ -11,7 +11,7 @@ use Rattle.store.proofs.laws.contents.Numbering.{number-below, chunk-at
 use Rattle.store.proofs.laws.Memory.{contents-length}
 
 -- of the n entries from entry i on, the one at place k is entry q
-entry-at : (pool directory : List ℕ) (i n k q : ℕ) → i + k ≡ q → k < n
+pub entry-at : (pool directory : List ℕ) (i n k q : ℕ) → i + k ≡ q → k < n
     → getD (chunksFrom pool directory i n) k [] ≡ chunkAt pool directory q
 unfolding chunksFrom
 entry-at pool directory i zero k q e l = absurd (omega arith)

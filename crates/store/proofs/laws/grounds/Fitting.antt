@@ -13,6 +13,7 @@ use Rattle.directory.proofs.laws.layout.Entries.{laid-entry}
 use Rattle.store.specs.declared.Head.{Head}
 use Rattle.store.specs.Grounds.{fits}
 use Rattle.store.specs.Opening.{fresh}
+use Rattle.store.specs.internal.EntriesIn.{EntriesIn}
 
 -- the parts of the test `fits`
 pub record Layout (head : Head) (pool directory : List ℕ) : Type 0 where
@@ -53,6 +54,16 @@ fits-entry head pool directory h q l =
       bounded = e .bounded;
       within = e .within;
       inPool = f .inPool;
+    }
+
+-- so the entries lie in memory
+pub entries-in : (head : Head) (pool directory : List ℕ) → fits head pool directory ≡ true
+    → EntriesIn pool directory (head .chunks .0)
+entries-in head pool directory h =
+    record {
+      entered = let facts = fits-facts head pool directory h in omega (arith, facts .counted);
+      some = λ i l. fits-entry head pool directory h i l .some;
+      inside = λ i l. let p = fits-entry head pool directory h i l in omega (arith, p .within, p .inPool);
     }
 
 -- a fresh head fits any pool and directory
