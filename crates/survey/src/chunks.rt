@@ -1,4 +1,4 @@
-// The chunks of a job on which none of the grounds 1 and 3 to 5 holds, one after another.
+// The chunks of a job on which none of the grounds 1, 3 to 5, 11 and 12 holds, one after another.
 ghost use mathlib.Core.Path.{_≡_};
 ghost use Rattle.survey.specs.internal.Snapshot.{snapshot};
 ghost use Rattle.survey.specs.internal.Surveyed.{surveyed};
@@ -9,33 +9,45 @@ use refusal::Refusal;
 use store::Head;
 use store::JobPosition;
 
-// Surveys a job: its chunks in order, each found in what the job has left, up to the first that is refused.
-pub fn survey(head: Head, pool: &[u8], directory: &[u32], recipe: &mut [u32], job: &[u8]) -> Step
-    requires { ⌜ Begun head (now pool) (now directory) (now recipe) (now job) ⌝ }
+// Surveys a job: its chunks in order, each found in what the job has left, up to the first that is refused. Of its own it
+// keeps a head for each chain of the job's new chunks, and where the chunk of every 64th place starts.
+pub fn survey(
+    head: Head,
+    pool: &[u8],
+    directory: &[u32],
+    index: &[u32],
+    recipe: &mut [u32],
+    job: &[u8],
+) -> Step
+    requires { ⌜ Begun head (now pool) (now directory) (now index) (now recipe) (now job) ⌝ }
     ensures { λ r. ⌜ record { refusal = r .refusal; snapshot = snapshot (r .progress) (now (recipe .exit)) }
         ≡ surveyed head (now (pool .entry)) (now (directory .entry)) (now (recipe .entry)) (now (job .entry)) ⌝ }
 {
-    let chunks = head.chunks;
-    let filled = head.filled;
-    let mut progress = Progress {
-        chunks,
-        filled,
-        recipe_length: 0,
-        new_bytes: 0,
-        repeated_bytes: 0,
-    };
+    let entries = gear::entries();
+    let mut heads = [marks::NO_PLACE; 1024];
+    let mut starts = [marks::NO_PLACE; 1024];
+    let mut progress = crate::begun(head);
     let mut at = 0;
     while at < job.len() {
-        let size = block_scan::first_chunk(head.window, &job[at..]);
+        let end = at + block_scan::first_chunk(head.window, &job[at..]);
+        let chunk = &job[at..end];
+        marks::note_start(
+            &mut starts,
+            progress.recipe_length as usize,
+            JobPosition(at as u32),
+        );
         let step = crate::survey_chunk(
             head,
             progress,
             pool,
             directory,
+            index,
             recipe,
+            &mut heads,
+            &starts,
             job,
-            JobPosition(at as u32),
-            size,
+            gear::chain(&entries, chunk),
+            chunk,
         );
         let refusal = step.refusal;
         if !refusal::accepted(refusal) {
@@ -43,7 +55,7 @@ pub fn survey(head: Head, pool: &[u8], directory: &[u32], recipe: &mut [u32], jo
         }
         let next = step.progress;
         progress = next;
-        at += size;
+        at = end;
     }
     crate::outcome(Refusal::Accepted, progress)
 }

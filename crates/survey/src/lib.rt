@@ -1,14 +1,12 @@
 // The survey of a job: what its chunks come to, one after another, with a mark for each in the recipe and nothing stored. The
 // layer below admission.
 ghost use mathlib.Core.Path.{_≡_};
-ghost use Prim.Native.Nat.{_+_, _-_, _^_, _<_};
-ghost use lib.ListN.{take, drop};
-ghost use Rattle.survey.specs.internal.Snapshot.{snapshot, withRepeated, withNew, chunkOutcome};
-ghost use Rattle.survey.specs.internal.Ready.{Ready};
+ghost use Prim.Native.Nat.{_+_, _^_, _<_};
+ghost use Rattle.survey.specs.internal.Snapshot.{snapshot, begunAt, withRepeated, withNew, chunkOutcome, headsAfter};
+ghost use Rattle.survey.specs.internal.Ready.{Lent, Marked, Next};
 use refusal::Refusal;
 use store::ChunkNumber;
 use store::Head;
-use store::JobPosition;
 use store::PoolOffset;
 
 mod chunks;
@@ -28,6 +26,21 @@ pub struct Progress {
 pub struct Step {
     pub refusal: Refusal,
     pub progress: Progress,
+}
+
+// Nothing is counted yet.
+fn begun(head: Head) -> Progress
+    ensures { λ r. ⌜ r ≡ begunAt head ⌝ }
+{
+    let chunks = head.chunks;
+    let filled = head.filled;
+    Progress {
+        chunks,
+        filled,
+        recipe_length: 0,
+        new_bytes: 0,
+        repeated_bytes: 0,
+    }
 }
 
 // The counts with a repeated chunk of `size` bytes.
@@ -73,38 +86,43 @@ fn outcome(refusal: Refusal, progress: Progress) -> Step
     Step { refusal, progress }
 }
 
-// The chunk of `size` bytes at a position of the job: one that the store holds or an earlier place of the job has is
-// repeated, any other is new. Refused by grounds 6 to 8, with nothing written.
+// The next chunk of the job, of the chain `own`: one that the store holds or an earlier place of the job has is repeated,
+// any other is new. Refused by grounds 6 to 8, with nothing written.
 fn survey_chunk(
     head: Head,
     progress: Progress,
     pool: &[u8],
     directory: &[u32],
+    index: &[u32],
     recipe: &mut [u32],
+    heads: &mut [u32; 1024],
+    starts: &[u32; 1024],
     job: &[u8],
-    at: JobPosition,
-    size: usize,
+    own: usize,
+    chunk: &[u8],
 ) -> Step
-    requires { ⌜ Ready head (now pool) (now directory) (now job) (snapshot progress (now recipe)) (at .0) size ⌝ }
-    ensures { λ r. ⌜ record { refusal = r .refusal; snapshot = snapshot (r .progress) (now (recipe .exit)) }
-        ≡ chunkOutcome head (now (pool .entry)) (now (directory .entry)) (now (job .entry)) (snapshot progress (now (recipe .entry))) (at .0)
-        (take size (drop (at .0) (now (job .entry)))) ⌝ }
+    requires { ⌜ Lent head (now pool) (now directory) (now index) (now job) (snapshot progress (now recipe)) ⌝ }
+    requires { ⌜ Marked (now job) (snapshot progress (now recipe)) (now heads) (now starts) ⌝ }
+    requires { ⌜ Next (now job) (snapshot progress (now recipe)) own (now chunk) ⌝ }
+    ensures outcome { λ r. ⌜ record { refusal = r .refusal; snapshot = snapshot (r .progress) (now (recipe .exit)) }
+        ≡ chunkOutcome head (now (pool .entry)) (now (directory .entry)) (now (job .entry)) (snapshot progress (now (recipe .entry))) (now (chunk .entry)) ⌝ }
+    ensures heads { λ r. ⌜ now (heads .exit)
+        ≡ headsAfter head (now (pool .entry)) (now (directory .entry)) (now (job .entry)) (snapshot progress (now (recipe .entry))) (now (heads .entry)) (now (chunk .entry)) ⌝ }
 {
     let used = progress.recipe_length as usize;
     if recipe.len() <= used {
         return outcome(Refusal::RecipeFull, progress);
     }
-    let from = at.0 as usize;
-    let chunk = &job[from..from + size];
+    let size = chunk.len();
     let stored = head.chunks;
-    let number = search::search(pool, directory, stored, chunk);
+    let number = search::search(pool, directory, index, stored, own, chunk);
     if number.0 < stored.0 {
-        recipe[used] = number.0;
+        recipe[used] = marks::stored(number, size);
         return outcome(Refusal::Accepted, with_repeated(progress, size as u32));
     }
-    let place = marks::find(head.window, recipe, used, job, chunk);
+    let place = marks::find(heads, starts, recipe, used, job, own, chunk);
     if place < used {
-        recipe[used] = marks::repeat(place);
+        recipe[used] = marks::repeat(place, size);
         return outcome(Refusal::Accepted, with_repeated(progress, size as u32));
     }
     let chunks = progress.chunks;
@@ -115,6 +133,7 @@ fn survey_chunk(
     if pool.len() - (filled.0 as usize) < size {
         return outcome(Refusal::PoolFull, progress);
     }
-    recipe[used] = marks::first(chunk, at);
+    recipe[used] = marks::first(heads[own], size);
+    heads[own] = used as u32;
     outcome(Refusal::Accepted, with_new(progress, size as u32))
 }

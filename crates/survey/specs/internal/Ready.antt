@@ -4,26 +4,38 @@ use mathlib.Core.Path.{_≡_}
 use mathlib.Core.Bool.{true}
 use mathlib.Core.List.{List}
 use lib.ListN.{length}
-use Rattle.chunker.specs.Scanner.{windowAllowed}
+use Rattle.gear.specs.Gear.{chains, chain}
+use Rattle.scan.specs.Limits.{chunkLimit}
 use Rattle.store.specs.declared.Head.{Head}
 use Rattle.store.specs.Limits.{poolLimit, directoryLimit, recipeLimit, jobLimit}
+use Rattle.store.specs.Memory.{contents}
 use Rattle.store.specs.internal.EntriesIn.{EntriesIn}
-use Rattle.marks.specs.internal.Places.{FirstsIn}
+use Rattle.index.specs.Grounds.{meets}
+use Rattle.marks.specs.internal.Places.{Linked, Heads, Starts}
 use Rattle.survey.specs.internal.Snapshot.{Snapshot}
 
--- memory is within the limits, the places so far hold marks, and the `size` bytes at a position of the job may still be
--- counted
-pub record Ready (head : Head) (pool directory job : List ℕ) (f : Snapshot) (at size : ℕ) : Type 0 where
-  pub window : windowAllowed (head .window) ≡ true
+-- memory is within the limits
+pub record Lent (head : Head) (pool directory index job : List ℕ) (f : Snapshot) : Type 0 where
   pub entries : EntriesIn pool directory (head .chunks .0)
   pub poolLength : length pool ≤ poolLimit
   pub directoryLength : length directory ≤ directoryLimit
+  pub indexLength : chains + head .chunks .0 ≤ length index
+  pub indexed : meets index (contents pool directory (head .chunks .0)) ≡ true
   pub recipeLength : length (f .recipe) ≤ recipeLimit
-  pub used : f .progress .«recipe_length» ≤ length (f .recipe)
-  pub marks : FirstsIn (head .window) job (f .recipe) (f .progress .«recipe_length») size
+  pub jobLength : length job ≤ jobLimit
   pub filled : f .progress .filled .0 ≤ length pool
   pub chunks : f .progress .chunks .0 ≤ directoryLimit
-  pub some : 1 ≤ size
-  pub inside : at + size ≤ length job
-  pub jobLength : length job ≤ jobLimit
-  pub counts : f .progress .«new_bytes» + f .progress .«repeated_bytes» ≤ at
+
+-- the places so far hold marks, by which the survey's own heads and starts go
+pub record Marked (job : List ℕ) (f : Snapshot) (heads starts : List ℕ) : Type 0 where
+  pub used : f .progress .«recipe_length» ≤ length (f .recipe)
+  pub linked : Linked job (f .recipe) (f .progress .«recipe_length»)
+  pub ownHeads : Heads job (f .recipe) heads (f .progress .«recipe_length»)
+  pub ownStarts : Starts (f .recipe) starts (f .progress .«recipe_length»)
+
+-- the chunk is not empty, no longer than any may be, of the chain `own`, and may still be counted
+pub record Next (job : List ℕ) (f : Snapshot) (own : ℕ) (chunk : List ℕ) : Type 0 where
+  pub some : 1 ≤ length chunk
+  pub small : length chunk ≤ chunkLimit
+  pub chain : own ≡ chain chunk
+  pub counts : f .progress .«new_bytes» + f .progress .«repeated_bytes» + length chunk ≤ length job

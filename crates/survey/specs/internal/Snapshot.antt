@@ -1,9 +1,10 @@
 -- A survey under way, chunk by chunk: what it has counted, and the recipe, whose places hold marks.
 use Prim.Native.Nat.{ℕ, _+_}
-use mathlib.Core.Bool.{Bool, cond, _||_}
+use mathlib.Core.Bool.{Bool, cond, not, _&&_, _||_}
 use mathlib.Core.List.{List, [], _∷_}
 use lib.Dec.{leb, ltb}
 use lib.ListN.{length, set, take}
+use Rattle.gear.specs.Gear.{chain}
 use Rattle.refusal.specs.Number.{accepted}
 use Rattle.refusal.specs.Grounds.{unless, first}
 use Rattle.refusal.specs.declared.Refusal.{Refusal}
@@ -12,7 +13,7 @@ use Rattle.directory.specs.Entry.{entries}
 use Rattle.store.specs.declared.Head.{Head}
 use Rattle.store.specs.Contents.{number}
 use Rattle.store.specs.Memory.{contents}
-use Rattle.marks.specs.Marks.{repeatMark, firstMark, firsts}
+use Rattle.marks.specs.Marks.{markOf, repeatCode, firstCode, lastOf, firsts}
 use Rattle.survey.specs.declared.Progress.{Progress}
 
 pub record Snapshot : Type 0 where
@@ -21,6 +22,17 @@ pub record Snapshot : Type 0 where
 
 abbrev pub snapshot : Progress → List ℕ → Snapshot
 snapshot progress recipe = record { progress = progress; recipe = recipe }
+
+-- nothing is counted yet
+abbrev pub begunAt : Head → Progress
+begunAt head =
+    record {
+      chunks = head .chunks;
+      filled = head .filled;
+      «recipe_length» = 0;
+      «new_bytes» = 0;
+      «repeated_bytes» = 0;
+    }
 
 -- the counts with a repeated chunk of some length
 abbrev pub withRepeated : Progress → ℕ → Progress
@@ -57,9 +69,13 @@ module _ (head : Head) (pool directory job : List ℕ) where
   abbrev pub numberIn : List ℕ → ℕ
   numberIn c = number (contents pool directory (head .chunks .0)) c
 
-  -- the place at which it appears in the job first, or the number of places so far
+  -- the chunks that the places so far say appear for the first time
+  abbrev pub firstsIn : Snapshot → List (List ℕ)
+  firstsIn f = firsts job 0 (take (f .progress .«recipe_length») (f .recipe))
+
+  -- the place at which a chunk appears in the job first, or the number of places so far
   abbrev pub placeIn : Snapshot → List ℕ → ℕ
-  placeIn f c = number (firsts (head .window) job (take (f .progress .«recipe_length») (f .recipe))) c
+  placeIn f c = number (firstsIn f) c
 
   -- the store holds the chunk
   abbrev pub stored : List ℕ → Bool
@@ -79,19 +95,24 @@ module _ (head : Head) (pool directory job : List ℕ) where
       ∷ unless (known || leb (f .progress .filled .0 + length c) (length pool)) PoolFull
       ∷ [])
 
-  -- what the place of a chunk at a position of the job is to say
-  abbrev pub markIn : Snapshot → ℕ → List ℕ → ℕ
-  markIn f at c = cond (stored c) (numberIn c) (cond (met f c) (repeatMark (placeIn f c)) (firstMark c at))
+  -- what the place of a chunk is to say
+  abbrev pub codeIn : Snapshot → List ℕ → ℕ
+  codeIn f c =
+      cond (stored c) (numberIn c) (cond (met f c) (repeatCode (placeIn f c)) (firstCode (lastOf (chain c) (firstsIn f))))
 
   -- what a chunk that no ground refuses leaves
-  unfoldable pub afterChunk : Snapshot → ℕ → List ℕ → Snapshot
-  afterChunk f at c =
+  unfoldable pub afterChunk : Snapshot → List ℕ → Snapshot
+  afterChunk f c =
       record {
         progress = cond (stored c || met f c) (withRepeated (f .progress) (length c)) (withNew (f .progress) (length c));
-        recipe = set (f .recipe) (f .progress .«recipe_length») (markIn f at c);
+        recipe = set (f .recipe) (f .progress .«recipe_length») (markOf (codeIn f c) (length c));
       }
 
   -- one chunk: what it leaves, or its ground and nothing written
-  unfoldable pub chunkOutcome : Snapshot → ℕ → List ℕ → Outcome
-  chunkOutcome f at c =
-      cond (accepted (chunkGround f c)) (ends Accepted (afterChunk f at c)) (ends (chunkGround f c) f)
+  unfoldable pub chunkOutcome : Snapshot → List ℕ → Outcome
+  chunkOutcome f c = cond (accepted (chunkGround f c)) (ends Accepted (afterChunk f c)) (ends (chunkGround f c) f)
+
+  -- the survey's own heads after it: a new chunk's place becomes the head of its chain
+  unfoldable pub headsAfter : Snapshot → List ℕ → List ℕ → List ℕ
+  headsAfter f heads c =
+      cond (accepted (chunkGround f c) && not (stored c || met f c)) (set heads (chain c) (f .progress .«recipe_length»)) heads

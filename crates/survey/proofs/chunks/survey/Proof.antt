@@ -1,36 +1,42 @@
 -- `survey::chunks::survey` meets its contract: each turn surveys the job's next chunk.
-use Prim.Native.Nat.{ℕ, _+_, _-_, _≤_}
+use Prim.Native.Nat.{ℕ, _+_, _-_, _≤_, _<_}
 use native.Mathlib.Omega.{arith}
 use mathlib.Core.Path.{_≡_, refl, sym, ap, _∙_}
 use mathlib.Core.List.{List}
 use borrow.Author.Needs.{needs}
 use borrow.Author.Tests.{not-true, not-false}
-use lib.ListN.{length, drop, length-drop, length-take}
+use lib.ListN.{length, take, drop, length-drop, length-take}
+use Rattle.gear.specs.Gear.{table}
 use Rattle.refusal.specs.Number.{accepted}
-use Rattle.chunker.proofs.laws.ground.Soundness.{window-bounds, fed-accepted, fresh-ground}
+use Rattle.chunker.proofs.laws.ground.Soundness.{window-bounds, fed-accepted, fresh-ground, all-bytes}
 use Rattle.chunker.proofs.laws.NextChunk.{NextChunk, next-of-rest}
 use Rattle.survey.specs.internal.Snapshot.{snapshot}
-use Rattle.survey.proofs.laws.chunks.Surveying.{Surveying, surveying-starts, surveying-ends, ready, outcome-on, outcome-stops}
+use Rattle.survey.proofs.laws.chunks.Surveying.{Surveying, surveying-starts, surveying-ends, surveying-same, lent, marked, next-in, outcome-on, outcome-stops}
 use Rattle.survey.proofs.chunks.survey.Statement.{statement}
 use Rattle.survey.proofs.chunks.survey.Tie as tie
 
 abbrev Inv-loop : tie.InvT-loop
-Inv-loop head pool directory recipe₀ job progress₀ at₀ recipe progress at =
-    Surveying head pool directory recipe₀ job (snapshot progress recipe) at × (length recipe ≡ length recipe₀)
+Inv-loop head pool directory index recipe₀ job entries heads₀ starts₀ progress₀ at₀ recipe heads starts progress at =
+    Surveying head pool directory index recipe₀ job (snapshot progress recipe) heads starts at
+    × (length recipe ≡ length recipe₀)
 
 abbrev μ-loop : tie.MeasureT-loop
-μ-loop head pool directory recipe₀ job progress₀ at₀ recipe progress at = length job - at
+μ-loop head pool directory index recipe₀ job entries heads₀ starts₀ progress₀ at₀ recipe heads starts progress at =
+    length job - at
 
--- the places of the code that the needs below go back to: the head of a turn, the call that finds its chunk and the one that
--- surveys it
+-- the places of the code that the needs below go back to: the start, the head of a turn, the call that finds its chunk, and the
+-- one that surveys it
 abbrev start-of : tie.At-loop Inv-loop μ-loop → tie.Start Inv-loop μ-loop
-start-of t = t .before .before .before .before .before .before .before
+start-of t = t .before .before .before .before .before .before .before .before
 
 abbrev turn-of : tie.After-first-chunk Inv-loop μ-loop → tie.At-loop Inv-loop μ-loop
 turn-of c = c .before .before .before
 
-abbrev call-of : tie.After-survey-chunk Inv-loop μ-loop → tie.After-first-chunk Inv-loop μ-loop
-call-of c = c .before .before
+abbrev call-of : tie.After-note-start Inv-loop μ-loop → tie.After-first-chunk Inv-loop μ-loop
+call-of c = c .before .before .before .before
+
+abbrev note-of : tie.After-chain Inv-loop μ-loop → tie.After-note-start Inv-loop μ-loop
+note-of c = c .before .before .before .before .before
 
 abbrev chunk-of : tie.After-accepted Inv-loop μ-loop → tie.After-survey-chunk Inv-loop μ-loop
 chunk-of c = c .before .before .before
@@ -39,20 +45,30 @@ chunk-of c = c .before .before .before
 abbrev job-of : tie.At-loop Inv-loop μ-loop → List ℕ
 job-of t = start-of t .args .job .now
 
+entries-requires : tie.Need-entries-requires Inv-loop μ-loop
+entries-requires c κs = search needs
+
+begun-requires : tie.Need-begun-requires Inv-loop μ-loop
+begun-requires c κs = search needs
+
 loop-holds : tie.Need-loop-holds Inv-loop μ-loop
 loop-holds c =
-    let s = c .before .before .before .before .before .before in
+    let s = c .before .before .before .before .before .before .before in
     let a = s .args in
-    (surveying-starts (a .head) (a .pool .now) (a .directory .now) (a .recipe .now) (a .job .now) (s .pre), refl)
+    rw (c .begun .ensures) (
+      surveying-starts (a .head) (a .pool .now) (a .directory .now) (a .index .now) (a .recipe .now) (a .job .now) (s .pre)
+          (all-bytes (a .job .now) (λ i. omega (arith, c .before .before .shared-slice-known4 .given i))),
+      refl,
+    )
 
 sub-first-chunk : tie.Need-sub-first-chunk Inv-loop μ-loop
-sub-first-chunk c = omega arith
+sub-first-chunk c = search needs
 
 part-first-chunk-start : tie.Need-part-first-chunk-start Inv-loop μ-loop
-part-first-chunk-start c = omega arith
+part-first-chunk-start c = search needs
 
 part-first-chunk-end : tie.Need-part-first-chunk-end Inv-loop μ-loop
-part-first-chunk-end c = omega arith
+part-first-chunk-end c = search needs
 
 first-chunk-requires : tie.Need-first-chunk-requires Inv-loop μ-loop
 first-chunk-requires c κs =
@@ -77,23 +93,57 @@ within c =
     let left = length-drop (turn-of c .loop .at) (job-of (turn-of c)) in
     omega (arith, next-of c .within, c .before .before .loop-test .taken)
 
-cast-t21 : tie.Need-cast-t21 Inv-loop μ-loop
-cast-t21 c =
-    let call = c .before in
+-- the code hands on as many bytes
+handed : (c : tie.After-first-chunk Inv-loop μ-loop)
+    → turn-of c .loop .at + c .first-chunk .result - turn-of c .loop .at ≡ c .first-chunk .result
+handed c = omega arith
+
+add-end : tie.Need-add-end Inv-loop μ-loop
+add-end c = omega (arith, within c)
+
+sub-chunk : tie.Need-sub-chunk Inv-loop μ-loop
+sub-chunk c = omega (arith, within c)
+
+part-chunk-start : tie.Need-part-chunk-start Inv-loop μ-loop
+part-chunk-start c = omega (arith, within c)
+
+part-chunk-end : tie.Need-part-chunk-end Inv-loop μ-loop
+part-chunk-end c = omega (arith, within c)
+
+cast-note-start : tie.Need-cast-note-start Inv-loop μ-loop
+cast-note-start c = search needs
+
+cast-t28 : tie.Need-cast-t28 Inv-loop μ-loop
+cast-t28 c =
+    let call = c .before .before .before in
     omega (arith, turn-of call .loop .inv .0 .begun .jobLength, call .before .before .loop-test .taken)
+
+note-start-requires : tie.Need-note-start-requires Inv-loop μ-loop
+note-start-requires c κs =
+    let turn = turn-of (c .before .before .before) in
+    let s = turn .loop .inv .0 in
+    omega (arith, ap (λ f. f .progress .«recipe_length») (s .state), s .used, s .begun .recipeLength)
+
+chain-requires : tie.Need-chain-requires Inv-loop μ-loop
+chain-requires c κs = search needs
 
 survey-chunk-requires : tie.Need-survey-chunk-requires Inv-loop μ-loop
 survey-chunk-requires c κs =
-    let call = c .before in
-    ready (turn-of call .loop .inv .0) _ (next-of call)
-
--- so far memory keeps its lengths
-kept-of : (c : tie.After-accepted Inv-loop μ-loop)
-    → length (chunk-of c .survey-chunk .last .1 .1 .1 .1 .0) ≡ length (start-of (turn-of (call-of (chunk-of c))) .args .recipe .now)
-kept-of c = chunk-of c .survey-chunk .kept .1 .1 .1 .1 .0 ∙ turn-of (call-of (chunk-of c)) .loop .inv .1
+    let note = note-of c in
+    let call = call-of note in
+    let s = turn-of call .loop .inv .0 in
+    let chunk = ap (λ n. take n (drop (turn-of call .loop .at) (job-of (turn-of call)))) (handed call) in (
+      lent s _ (next-of call),
+      (rw (note .note-start .ensures) (marked s _ (next-of call)), rw chunk (next-in s _ (next-of call) _ (rw chunk at (c .chain .ensures .0)))),
+    )
 
 accepted-requires : tie.Need-accepted-requires Inv-loop μ-loop
 accepted-requires c κs = search needs
+
+-- so far memory keeps its lengths
+kept-of : (c : tie.After-accepted Inv-loop μ-loop)
+    → length (chunk-of c .survey-chunk .last .1 .1 .1 .1 .1 .0) ≡ length (start-of (turn-of (call-of (note-of (chunk-of c .before)))) .args .recipe .now)
+kept-of c = chunk-of c .survey-chunk .kept .1 .1 .1 .1 .1 .0 ∙ turn-of (call-of (note-of (chunk-of c .before))) .loop .inv .1
 
 same-length : tie.Need-same-length Inv-loop μ-loop
 same-length c = kept-of (c .before)
@@ -101,28 +151,29 @@ same-length c = kept-of (c .before)
 returns : tie.Need-returns Inv-loop μ-loop
 returns c =
     let call = chunk-of (c .before) in
-    let s = call .survey-chunk .ensures in
+    let found = call-of (note-of (call .before)) in
+    let s = rw (handed found) at (call .survey-chunk .ensures .0) in
     let tested = sym (c .before .accepted .ensures) ∙ not-true _ (c .if1 .taken) in
     let refused = sym (ap (λ o. accepted (o .refusal)) s) ∙ tested in
-    s ∙ outcome-stops (turn-of (call-of call) .loop .inv .0) _ (next-of (call-of call)) refused
-
-add-at : tie.Need-add-at Inv-loop μ-loop
-add-at c = omega (arith, within (call-of (chunk-of (c .before .before))))
+    s ∙ outcome-stops (turn-of found .loop .inv .0) _ (next-of found) refused
 
 loop-less : tie.Need-loop-less Inv-loop μ-loop
 loop-less c =
-    let call = call-of (chunk-of (c .before .before)) in
+    let call = call-of (note-of (chunk-of (c .before .before) .before)) in
     omega (arith, next-of call .some, within call)
 
 loop-again : tie.Need-loop-again Inv-loop μ-loop
 loop-again c =
     let passed = c .before .before in
     let call = chunk-of passed in
-    let s = call .survey-chunk .ensures in
+    let note = note-of (call .before) in
+    let found = call-of note in
+    let s = rw (handed found) at (call .survey-chunk .ensures .0) in
+    let own = rw (handed found) at (call .survey-chunk .ensures .1) in
     let tested = sym (passed .accepted .ensures) ∙ not-false _ (c .before .if1 .left) in
     let accepts = sym (ap (λ o. accepted (o .refusal)) s) ∙ tested in
-    let on = outcome-on (turn-of (call-of call) .loop .inv .0) _ (next-of (call-of call)) accepts in
-    (rw (← (ap (λ o. o .snapshot) s)) at on, kept-of passed)
+    let on = outcome-on (turn-of found .loop .inv .0) _ (next-of found) accepts in
+    (surveying-same (sym (ap (λ o. o .snapshot) s)) (sym own) (sym (note .note-start .ensures)) on, kept-of passed)
 
 outcome-requires : tie.Need-outcome-requires Inv-loop μ-loop
 outcome-requires c κs = search needs
@@ -140,17 +191,25 @@ survey-spec =
     (tie.spec
     Inv-loop
     μ-loop
+    entries-requires
+    begun-requires
     loop-holds
     sub-first-chunk
     part-first-chunk-start
     part-first-chunk-end
     first-chunk-requires
-    cast-t21
+    add-end
+    sub-chunk
+    part-chunk-start
+    part-chunk-end
+    cast-note-start
+    cast-t28
+    note-start-requires
+    chain-requires
     survey-chunk-requires
     accepted-requires
     same-length
     returns
-    add-at
     loop-less
     loop-again
     outcome-requires

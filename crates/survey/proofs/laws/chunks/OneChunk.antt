@@ -4,12 +4,14 @@ use native.Mathlib.Omega.{arith}
 use native.Mathlib.Nat.{add-zero, add-assoc}
 use native.Mathlib.Numerals.{add-one}
 use mathlib.Core.Path.{_≡_, refl, sym, ap, ap₂, _∙_}
-use mathlib.Core.Bool.{Bool, true, false, cond, _||_}
+use mathlib.Core.Bool.{Bool, true, false, cond, not, _||_}
 use mathlib.Core.List.{List, [], _∷_, _++_, append-assoc, append-nil}
 use lib.Dec.{ltb}
 use lib.ListN.{length, take, drop, set, length-append, length-drop}
 use lib.Seq.{take-at, drop-drop, drop-append-add, set-split}
 use borrow.Author.Tests.{lt-ltb, le-ltb}
+use Rattle.gear.specs.Gear.{chain}
+use Rattle.chunker.specs.Bytes.{Bytes}
 use Rattle.chunker.specs.Chunks.{chunks, total}
 use Rattle.store.specs.declared.Head.{Head}
 use Rattle.store.specs.Contents.{number, has, grown, added, repeated}
@@ -20,14 +22,17 @@ use Rattle.store.proofs.laws.grounds.Filled.{total-contents}
 use Rattle.store.proofs.laws.contents.Numbering.{number-below, number-next}
 use Rattle.store.proofs.laws.contents.Growth.{has-grown}
 use Rattle.store.proofs.laws.contents.Additions.{added-append, repeated-append, grown-added, length-grown, total-append}
-use Rattle.marks.specs.Marks.{repeatMark, firstMark, mark, marks}
-use Rattle.marks.proofs.laws.Positions.{starts-at}
-use Rattle.marks.proofs.laws.Marking.{length-marks, marks-last, Places}
-use Rattle.marks.proofs.laws.Appearing.{number-firsts}
+use Rattle.marks.specs.Marks.{markOf, repeatCode, firstCode, lastOf, mark, marks}
+use Rattle.marks.specs.Marks as marks
+use Rattle.marks.specs.internal.Places.{Heads}
+use Rattle.marks.proofs.laws.Marking.{length-marks, marks-last, Places, next-start}
+use Rattle.marks.proofs.laws.Appearing.{number-firsts, recipe-firsts}
+use Rattle.marks.proofs.laws.Keeping.{heads-known, heads-new}
 use Rattle.survey.specs.Walk as walk
 use Rattle.survey.specs.Walk.{roomIn, noted}
-use Rattle.survey.specs.internal.Snapshot.{Snapshot, snapshot, withRepeated, withNew, placeIn, stored, met}
-use Rattle.survey.specs.internal.Snapshot.{chunkGround, markIn, afterChunk}
+use Rattle.survey.specs.internal.Snapshot.{Snapshot, snapshot, withRepeated, withNew, firstsIn, placeIn, stored, met}
+use Rattle.survey.specs.internal.Snapshot.{chunkGround, codeIn, afterChunk, headsAfter}
+use Rattle.refusal.specs.Number.{accepted}
 use Rattle.survey.specs.internal.Surveyed.{progressWith, progressAfter, surveyAfter}
 use Rattle.survey.specs.internal.Begun.{Begun}
 
@@ -61,7 +66,8 @@ pub noted-length : (recipe ns : List ℕ) → length ns ≤ length recipe → le
 noted-length recipe ns l =
     omega (arith, length-append ns (drop (length ns) recipe), length-drop (length ns) recipe)
 
-module _ (head : Head) (pool directory recipe job : List ℕ) (b : Begun head pool directory recipe job) where
+module _ (head : Head) (pool directory recipe job : List ℕ) {index : List ℕ}
+    (b : Begun head pool directory index recipe job) where
   -- the chunks of the store
   abbrev held : List (List ℕ)
   held = contents pool directory (head .chunks .0)
@@ -106,13 +112,14 @@ module _ (head : Head) (pool directory recipe job : List ℕ) (b : Begun head po
             add-assoc (head .filled .0) (total (added held ds)) (length c),
           )
 
-  module _ (ds : List (List ℕ)) (c : List ℕ) (cs : List (List ℕ)) (whole : chunks (head .window) job ≡ ds ++ (c ∷ cs))
-      (used : length ds ≤ length recipe) where
+  module _ (bytes : Bytes job) (ds : List (List ℕ)) (c : List ℕ) (cs : List (List ℕ))
+      (whole : chunks (head .window) job ≡ ds ++ (c ∷ cs)) (used : length ds ≤ length recipe) where
     -- what marks say of these chunks
     pub places : Places (head .window) job held [] ds (c ∷ cs)
     places =
         record {
           allowed = b .window;
+          bytes = bytes;
           long = b .jobLength;
           few = omega (arith, counted, fits-facts head pool directory (b .fitting) .counted, b .directoryLength);
           short = omega (arith, used, b .recipeLength);
@@ -121,16 +128,18 @@ module _ (head : Head) (pool directory recipe job : List ℕ) (b : Begun head po
 
     -- it is not empty
     some : 1 ≤ length c
-    some = starts-at (head .window) (b .window) ds job c cs whole .some
+    some = next-start places .some
 
-    -- the recipe's first places hold the marks
-    first-places : take (length ds) (noted recipe (marks held [] ds)) ≡ marks held [] ds
-    first-places = take-at (marks held [] ds) _ (length ds) (length-marks held [] ds)
+    -- what the recipe's first places say
+    firsts-in : firstsIn head pool directory job (after ds) ≡ marks.appearing held [] ds
+    firsts-in = recipe-firsts (head .window) job held ds (c ∷ cs) places (drop (length (marks held [] ds)) recipe)
 
     -- the place of a chunk that the store lacks
     place-in : has held c ≡ false → placeIn head pool directory job (after ds) c ≡ number ds c
     unfolding has
-    place-in new = rw first-places (number-firsts (head .window) job held c some new [] ds (c ∷ cs) places refl)
+    place-in new =
+        let first-places = take-at (marks held [] ds) (drop (length (marks held [] ds)) recipe) (length ds) (length-marks held [] ds) in
+        rw first-places (number-firsts (head .window) job held c some new [] ds (c ∷ cs) places refl)
 
     -- the store holds the chunk, or an earlier place of the job has it
     stored-has : stored head pool directory job c ≡ has held c
@@ -146,17 +155,17 @@ module _ (head : Head) (pool directory recipe job : List ℕ) (b : Begun head po
         by-test true h = refl
         by-test false h = met-has h
 
-    -- so the mark is the chunk's
-    mark-in : markIn head pool directory job (after ds) (total ds) c ≡ mark held ds c
-    unfolding mark
-    mark-in = rw stored-has (by-test (has held c) refl)
+    -- so the code is the chunk's
+    code-in : codeIn head pool directory job (after ds) c ≡ marks.codeIn held ds c
+    unfolding marks.codeIn
+    code-in = rw stored-has (by-test (has held c) refl)
       where
         by-test : (t : Bool) → has held c ≡ t
             → cond t (number held c)
-            (cond (met head pool directory job (after ds) c) (repeatMark (placeIn head pool directory job (after ds) c)) (firstMark c (total ds)))
-            ≡ cond t (number held c) (cond (has ds c) (repeatMark (number ds c)) (firstMark c (total ds)))
+            (cond (met head pool directory job (after ds) c) (repeatCode (placeIn head pool directory job (after ds) c)) (firstCode (lastOf (chain c) (firstsIn head pool directory job (after ds)))))
+            ≡ cond t (number held c) (cond (has ds c) (repeatCode (number ds c)) (firstCode (lastOf (chain c) (marks.appearing held [] ds))))
         by-test true h = refl
-        by-test false h = rw (met-has h, place-in h)
+        by-test false h = rw (met-has h, place-in h, firsts-in)
 
     -- the grounds are those of the walk
     pub ground-in : chunkGround head pool directory job (after ds) c
@@ -167,8 +176,7 @@ module _ (head : Head) (pool directory recipe job : List ℕ) (b : Begun head po
         rw (known, long, length-grown held ds, counted, full ds)
 
     -- what the chunk leaves is the survey after it
-    pub after-in : length ds < length recipe
-        → afterChunk head pool directory job (after ds) (total ds) c ≡ after (ds ++ (c ∷ []))
+    pub after-in : length ds < length recipe → afterChunk head pool directory job (after ds) c ≡ after (ds ++ (c ∷ []))
     unfolding afterChunk
     after-in room =
         let before = progressAfter head held ds in
@@ -176,4 +184,20 @@ module _ (head : Head) (pool directory recipe job : List ℕ) (b : Begun head po
         let counts : cond again (withRepeated before (length c)) (withNew before (length c)) ≡ progressAfter head held (ds ++ (c ∷ [])) =
         rw known (progress-more ds c) in
         let places = noted-at recipe (marks held [] ds) (mark held ds c) (length ds) (length-marks held [] ds) room in
-        ap₂ snapshot counts (rw (mark-in, marks-last held [] ds c) places)
+        ap₂ snapshot counts (rw (code-in, marks-last held [] ds c) places)
+
+    -- and its own heads go by it
+    pub heads-in : (heads : List ℕ) → length heads ≡ 1024 → accepted (chunkGround head pool directory job (after ds) c) ≡ true
+        → Heads job (after ds .recipe) heads (length ds)
+        → Heads job (after (ds ++ (c ∷ [])) .recipe) (headsAfter head pool directory job (after ds) heads c) (length (ds ++ (c ∷ [])))
+    unfolding headsAfter
+    heads-in heads long accepts h =
+        rw (accepts, known, has-grown held ds c) (by-test (has held c || has ds c) refl)
+      where
+        rest : List (List ℕ) → List ℕ
+        rest es = drop (length (marks held [] es)) recipe
+
+        by-test : (t : Bool) → (has held c || has ds c) ≡ t
+            → Heads job (after (ds ++ (c ∷ [])) .recipe) (cond (not t) (set heads (chain c) (length ds)) heads) (length (ds ++ (c ∷ [])))
+        by-test true e = heads-known (head .window) job held ds c cs places (rest ds) (rest (ds ++ (c ∷ []))) heads h e
+        by-test false e = heads-new (head .window) job held ds c cs places (rest ds) (rest (ds ++ (c ∷ []))) heads h long e
