@@ -53,7 +53,8 @@ module _ (job recipe : List ℕ) (used : ℕ) (inside : used ≤ length recipe) 
       }
 
   -- and the head fits
-  pub head-small : used ≤ noPlace → (heads : List ℕ) (c : ℕ) → Heads job recipe heads used → c < chains → getD heads c 0 ≤ noPlace
+  pub head-small : used ≤ noPlace → (heads : List ℕ) (c : ℕ) → Heads job recipe heads used → c < chains
+      → getD heads c 0 ≤ noPlace
   head-small few heads c h l =
       omega (arith, h .each c l, last-small c (shown job recipe used) (omega (arith, shown-length)))
 

@@ -44,7 +44,8 @@ module _ {job recipe chunk : List ℕ} {used r : ℕ} (inside : used ≤ length 
             below = omega arith;
             met = rw e (rw (getD-take (s .bound) (shown job recipe used) p [] b) at o);
             rest = λ q l u h. elim (decLt q (s .bound)) [
-              | yes k ↦ true≢false (sym (chain-met inside some s q k h) ∙ none q (omega arith) (omega (arith, before-length inside s)))
+              | yes k ↦ let inner : q < length (before s) = omega (arith, before-length inside s) in
+                  true≢false (sym (chain-met inside some s q k h) ∙ none q (omega arith) inner)
               | no k ↦ s .others q (omega arith) u h
             ];
           }

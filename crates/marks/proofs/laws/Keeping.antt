@@ -29,6 +29,13 @@ heads-none job recipe = record { each = λ c l. getD-replicate chains c noPlace 
 pub starts-none : (recipe starts : List ℕ) → Starts recipe starts 0
 starts-none recipe starts = record { each = λ k l. absurd (omega arith) }
 
+-- the head of a chain is the place that the mark of its next new chunk names
+pub head-is : (w : ℕ) (job : List ℕ) (held ds rest : List (List ℕ)) → Places w job held [] ds rest
+    → (more heads : List ℕ) → Heads job (marks held [] ds ++ more) heads (length ds)
+    → (k : ℕ) → k < chains → getD heads k 0 ≡ lastOf k (appearing held [] ds)
+head-is w job held ds rest p more heads h k l =
+    h .each k l ∙ ap (lastOf k) (recipe-firsts w job held ds rest p more)
+
 -- the starts with that of the chunk at a place, where the place is one of every 64
 abbrev pub startsWith : List ℕ → ℕ → ℕ → List ℕ
 startsWith starts place at = cond (eqb (place % startStride) 0) (set starts (place / startStride) at) starts
@@ -114,8 +121,8 @@ module _ (w : ℕ) (job : List ℕ) (held ds : List (List ℕ)) (c : List ℕ) (
 
   module _ (heads : List ℕ) (h : Heads job before heads (length ds)) where
     -- the head of a chain before
-    pub head-before : (k : ℕ) → k < chains → getD heads k 0 ≡ lastOf k (appearing held [] ds)
-    head-before k l = h .each k l ∙ ap (lastOf k) (recipe-firsts w job held ds (c ∷ rest) p more)
+    head-before : (k : ℕ) → k < chains → getD heads k 0 ≡ lastOf k (appearing held [] ds)
+    head-before = head-is w job held ds (c ∷ rest) p more heads h
 
     -- and after
     last-after : (k : ℕ) → lastOf k (firsts job 0 (take (length (ds ++ (c ∷ []))) after))

@@ -40,7 +40,8 @@ named c =
     let call = c .before .before in
     let turn = call .before .before .before in
     let more = call .before .before .loop-test .taken in
-    let before = names-earlier (turn .loop .inv) more (call .code-of .result) (call .code-of .ensures) (c .before .if1 .left) (c .if2 .taken) in
+    let at = names-earlier (turn .loop .inv) more (call .code-of .result) (call .code-of .ensures) in
+    let before = at (c .before .if1 .left) (c .if2 .taken) in
     omega (arith, here (call .before), before)
 
 mul-recipe : tie.Need-mul-recipe Inv-loop μ-loop
