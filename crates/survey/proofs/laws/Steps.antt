@@ -1,30 +1,17 @@
 -- What one chunk of a survey comes to, by the tests in the order in which the code makes them.
 use Prim.Native.Nat.{ℕ, _+_, _≤_, _<_}
-use native.Mathlib.Omega.{arith}
 use mathlib.Core.Path.{_≡_}
 use mathlib.Core.List.{List}
-use lib.ListN.{length, getD, set, take, length-take}
+use lib.ListN.{length, set}
 use borrow.Author.Tests.{le-leb, lt-leb, lt-ltb, le-ltb}
-use Rattle.gear.specs.Gear.{chains, chain}
+use Rattle.gear.specs.Gear.{chain}
 use Rattle.refusal.specs.declared.Refusal.the-variants.{Accepted, RecipeFull, DirectoryFull, PoolFull}
 use Rattle.directory.specs.Entry.{entries}
 use Rattle.store.specs.declared.Head.{Head}
-use Rattle.store.specs.Limits.{recipeLimit}
-use Rattle.marks.specs.Marks.{markOf, repeatCode, firstCode, noPlace, lastOf, firsts}
-use Rattle.marks.specs.internal.Places.{Heads}
-use Rattle.marks.proofs.laws.Sizes.{length-firsts}
-use Rattle.marks.proofs.laws.Chains.{last-small}
+use Rattle.marks.specs.Marks.{markOf, repeatCode, firstCode, lastOf}
 use Rattle.survey.specs.declared.Progress.{Progress}
 use Rattle.survey.specs.internal.Snapshot.{Snapshot, snapshot, Outcome, ends, withRepeated, withNew}
 use Rattle.survey.specs.internal.Snapshot.{numberIn, firstsIn, placeIn, chunkGround, afterChunk, chunkOutcome, headsAfter}
-
--- a head is a place of a recipe, or none
-pub head-small : (job recipe heads : List ℕ) (n c : ℕ) → n ≤ recipeLimit → Heads job recipe heads n → c < chains
-    → getD heads c 0 ≤ noPlace
-head-small job recipe heads n c few h l =
-    let shown = firsts job 0 (take n recipe) in
-    let count = length-firsts job 0 (take n recipe) in
-    rw (h .each c l) (last-small c shown (omega (arith, count, length-take n recipe)))
 
 module _ (head : Head) (pool directory job : List ℕ) (f : Snapshot) (heads c : List ℕ) where
   -- what the survey comes to, with the heads that it keeps of its own

@@ -10,8 +10,9 @@ use Rattle.gear.proofs.laws.Sums.{chain-below}
 use Rattle.directory.specs.Entry.{entries}
 use Rattle.store.specs.declared.Head.{Head}
 use Rattle.marks.specs.Marks.{lastOf, firsts}
+use Rattle.marks.proofs.laws.Finding.{head-small}
 use Rattle.survey.specs.internal.Snapshot.{Snapshot, snapshot, numberIn, placeIn}
-use Rattle.survey.proofs.laws.Steps.{head-small, recipe-full, found, repeats, directory-full, pool-full, appears}
+use Rattle.survey.proofs.laws.Steps.{recipe-full, found, repeats, directory-full, pool-full, appears}
 use Rattle.survey.proofs.survey_chunk.Statement.{statement}
 use Rattle.survey.proofs.survey_chunk.Tie as tie
 
@@ -224,7 +225,8 @@ first-requires : tie.Need-first-requires
 first-requires c κs =
     let s = fits-of (c .before) in
     let m = s .pre .1 .0 in (
-      head-small (job-of s) (s .args .recipe .now) (heads-of s) (s .args .progress .«recipe_length») (s .args .own) (m .linked .few) (m .ownHeads) (chain-small s),
+      head-small (job-of s) (s .args .recipe .now) (s .args .progress .«recipe_length») (m .used) (m .linked .few) (heads-of s) (s .args .own) (m .ownHeads)
+      (chain-small s),
       omega (arith, s .pre .1 .1 .small),
     )
 
