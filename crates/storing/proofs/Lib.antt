@@ -1,2 +1,3 @@
--- laws/Adding says what storing adds to a store, laws/LeftAlone what it leaves; the others serve these and the code.
+-- laws/Adding says what storing adds to a store, laws/Indexing what it adds to the index, laws/LeftAlone what it leaves; the others
+-- serve these and the code.
 pub mod laws

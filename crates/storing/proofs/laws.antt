@@ -1,7 +1,6 @@
 pub mod Writing
 pub mod Steps
 pub mod Adding
+pub mod Indexing
 pub mod LeftAlone
-pub mod Ends
 pub mod Passing
-pub mod Marked

@@ -1,7 +1,8 @@
--- New chunks go into pool and directory one after another.
+-- New chunks go into pool, directory and index one after another.
 use Prim.Native.Nat.{ℕ, suc, _+_, _*_, _≤_, _<_}
 use native.Mathlib.Omega.{arith}
 use native.Mathlib.Nat.{add-zero}
+use native.Mathlib.Numerals.{add-one}
 use mathlib.Core.Path.{_≡_, refl, _∙_}
 use mathlib.Core.List.{List, [], _∷_, append-assoc}
 use lib.ListN.{length, take, length-append, take-append-drop}
@@ -12,8 +13,9 @@ use Rattle.directory.specs.Entry.{stride, entered}
 use Rattle.copying.specs.Written.{written}
 use Rattle.copying.proofs.laws.Written.{written-twice}
 use Rattle.store.specs.declared.Head.{Head}
-use Rattle.storing.specs.Storing.{poolWith, entriesOf, directoryWith}
-use Rattle.storing.proofs.laws.Writing.{headAfter, poolAfter, directoryAfter}
+use Rattle.index.specs.Index.{enterAll}
+use Rattle.storing.specs.Storing.{poolWith, entriesOf, directoryWith, indexWith}
+use Rattle.storing.proofs.laws.Writing.{headAfter, poolAfter, directoryAfter, indexAfter}
 
 -- chunks have as many bytes as they have laid end to end
 pub total-joined : (cs : List (List ℕ)) → total cs ≡ length (joined cs)
@@ -42,16 +44,21 @@ module _ (head : Head) where
   pub pool-none : (pool : List ℕ) → poolWith head pool [] ≡ pool
   pool-none pool = written-nothing pool (head .filled .0)
 
-  -- and the directory
+  -- the directory
   pub directory-none : (directory : List ℕ) → directoryWith head directory [] ≡ directory
   directory-none directory = written-nothing directory (head .chunks .0 * stride)
+
+  -- and the index
+  pub index-none : (index : List ℕ) → indexWith head index [] ≡ index
+  unfolding enterAll
+  index-none index = refl
 
   -- the first chunk goes into the pool, then the others
   pub pool-step : (pool c : List ℕ) (cs : List (List ℕ)) → head .filled .0 + length c ≤ length pool
       → poolWith (headAfter head (length c)) (poolAfter head pool c) cs ≡ poolWith head pool (c ∷ cs)
   pool-step pool c cs h = written-twice pool (head .filled .0) c (joined cs) h
 
-  -- and its entry into the directory, then the others
+  -- its entry into the directory, then the others
   pub directory-step : (directory c : List ℕ) (cs : List (List ℕ)) → head .chunks .0 * stride + 1 < length directory
       → directoryWith (headAfter head (length c)) (directoryAfter head directory c) cs
       ≡ directoryWith head directory (c ∷ cs)
@@ -61,3 +68,9 @@ module _ (head : Head) where
       let next : (head .chunks .0 + 1) * stride ≡ at + 2 = omega arith in
       rw (entered-written directory (head .chunks .0) o (length c) h, next)
       (written-twice directory at (o ∷ length c ∷ []) (entriesOf (o + length c) cs) (omega arith))
+
+  -- and its number to the front of its chain, then the others
+  pub index-step : (index c : List ℕ) (cs : List (List ℕ))
+      → indexWith (headAfter head (length c)) (indexAfter head index c) cs ≡ indexWith head index (c ∷ cs)
+  unfolding enterAll
+  index-step index c cs = rw (add-one (head .chunks .0))

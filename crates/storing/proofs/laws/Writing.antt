@@ -13,6 +13,7 @@ use Rattle.directory.specs.Entry.{offsetAt, lengthAt, entries, entered, stride}
 use Rattle.store.specs.Grounds.{fits}
 use Rattle.store.specs.Memory.{chunkAt, contents}
 use Rattle.copying.specs.Written.{written}
+use Rattle.index.specs.Index.{enter}
 use Rattle.directory.proofs.laws.layout.Entries.{laid-added, laid-same}
 use Rattle.store.proofs.laws.grounds.Fitting.{fits-facts, fits-back, fits-entry}
 use Rattle.store.proofs.laws.Memory.{chunks-same, chunks-last}
@@ -77,12 +78,15 @@ headAfter head size =
       filled = record { 0 = head .filled .0 + size };
     }
 
--- pool and directory with a chunk written at the end of what the store holds
+-- pool, directory and index with a chunk written at the end of what the store holds
 abbrev pub poolAfter : Head → List ℕ → List ℕ → List ℕ
 poolAfter head pool c = written pool (head .filled .0) c
 
 abbrev pub directoryAfter : Head → List ℕ → List ℕ → List ℕ
 directoryAfter head directory c = entered directory (head .chunks .0) (head .filled .0) (length c)
+
+abbrev pub indexAfter : Head → List ℕ → List ℕ → List ℕ
+indexAfter head index c = enter index (head .chunks .0) c
 
 -- writing at or past the end of what a store holds
 writing-past : (n top : ℕ) (pool directory : List ℕ) (m end : ℕ) (c : List ℕ) → n ≤ m → top ≤ end
