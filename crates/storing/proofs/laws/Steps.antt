@@ -3,7 +3,7 @@ use Prim.Native.Nat.{ℕ, suc, _+_, _*_, _≤_, _<_}
 use native.Mathlib.Omega.{arith}
 use native.Mathlib.Nat.{add-zero}
 use native.Mathlib.Numerals.{add-one}
-use mathlib.Core.Path.{_≡_, refl, _∙_}
+use mathlib.Core.Path.{_≡_, refl, ap, _∙_}
 use mathlib.Core.List.{List, [], _∷_, append-assoc}
 use lib.ListN.{length, take, length-append, take-append-drop}
 use lib.Seq.{sets-eq}
@@ -73,4 +73,4 @@ module _ (head : Head) where
   pub index-step : (index c : List ℕ) (cs : List (List ℕ))
       → indexWith (headAfter head (length c)) (indexAfter head index c) cs ≡ indexWith head index (c ∷ cs)
   unfolding enterAll
-  index-step index c cs = rw (add-one (head .chunks .0))
+  index-step index c cs = ap (λ n. enterAll (indexAfter head index c) n cs) (add-one (head .chunks .0))
