@@ -11,6 +11,8 @@ use Rattle.chunker.specs.Scanner.{windowGround}
 use Rattle.store.specs.declared.Head.{Head}
 use Rattle.store.specs.Limits.{jobLimit}
 use Rattle.store.specs.Grounds.{memoryGround, recipeGround, headGround}
+use Rattle.store.specs.Memory.{contents}
+use Rattle.index.specs.Grounds.{indexLengthGround, indexGround}
 
 -- "The job is empty or longer than 16,777,216 bytes" does not hold
 unfoldable pub jobAllowed : List ℕ → Bool
@@ -20,13 +22,15 @@ jobAllowed job = leb 1 (length job) && leb (length job) jobLimit
 abbrev pub jobGround : List ℕ → Refusal
 jobGround job = unless (jobAllowed job) JobLength
 
--- "admission 1 and 3 to 8": the first of the grounds 1 and 3 to 5 that holds
-unfoldable pub admissionGround : Head → List ℕ → List ℕ → List ℕ → List ℕ → Refusal
-admissionGround head pool directory recipe job =
+-- "admission 1 and 3 to 8", and 11 and 12 "both after 5 and before 6": the first of the grounds 1, 3 to 5, 11 and 12 that holds
+unfoldable pub admissionGround : Head → List ℕ → List ℕ → List ℕ → List ℕ → List ℕ → Refusal
+admissionGround head pool directory index recipe job =
     first
     (windowGround (head .window)
     ∷ jobGround job
     ∷ recipeGround recipe
     ∷ memoryGround pool directory
     ∷ headGround head pool directory
+    ∷ indexLengthGround directory index
+    ∷ indexGround index (contents pool directory (head .chunks .0))
     ∷ [])

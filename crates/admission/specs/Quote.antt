@@ -51,11 +51,11 @@ walked held jobLength recipe whole =
       recipe = noted recipe (numbers held (whole .passed));
     }
 
--- "a quote reads store and job and gives the recipe length and the three counts while writing only the recipe"; "After 1 and
--- 3 to 5 lent memory is untouched"
-unfoldable pub quoted : Head → List ℕ → List ℕ → List ℕ → List ℕ → Quotation
-quoted head pool directory recipe job =
-    let ground = admissionGround head pool directory recipe job in
+-- "a quote reads store and job and gives the recipe length and the three counts while writing only the recipe"; "a refusal
+-- before 6 leaves all lent memory untouched"
+unfoldable pub quoted : Head → List ℕ → List ℕ → List ℕ → List ℕ → List ℕ → Quotation
+quoted head pool directory index recipe job =
+    let ground = admissionGround head pool directory index recipe job in
     let held = contents pool directory (head .chunks .0) in
     cond (accepted ground) (walked held (length job) recipe (jobWalk head pool directory recipe job))
     (record { answer = refused ground; recipe = recipe })

@@ -15,16 +15,17 @@ fn job_allowed(job: &[u8]) -> bool
     job.len() <= JOB_LIMIT
 }
 
-// The first of the grounds 1 and 3 to 5 that holds, if any. A recipe over its limit is ground 4, so it is
+// The first of the grounds 1, 3 to 5, 11 and 12 that holds, if any. A recipe over its limit is ground 4, so it is
 // tested before the store's grounds.
 pub fn admission_ground(
     head: Head,
     pool: &[u8],
     directory: &[u32],
+    index: &[u32],
     recipe: &[u32],
     job: &[u8],
 ) -> Refusal
-    ensures { λ r. ⌜ r ≡ admissionGround head (now (pool .entry)) (now (directory .entry)) (now (recipe .entry)) (now (job .entry)) ⌝ }
+    ensures { λ r. ⌜ r ≡ admissionGround head (now (pool .entry)) (now (directory .entry)) (now (index .entry)) (now (recipe .entry)) (now (job .entry)) ⌝ }
 {
     if !chunker::window_allowed(head.window) {
         return Refusal::Window;
@@ -35,5 +36,9 @@ pub fn admission_ground(
     if !store::recipe_allowed(recipe) {
         return Refusal::MemoryLimit;
     }
-    store::store_ground(head, pool, directory)
+    let ground = store::store_ground(head, pool, directory);
+    if !refusal::accepted(ground) {
+        return ground;
+    }
+    index::index_ground(head, pool, directory, index)
 }

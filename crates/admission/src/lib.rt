@@ -81,40 +81,55 @@ fn head_after(head: Head, progress: Progress) -> Head
     }
 }
 
-// Quotes a job: what its take would answer. Writes only the recipe. Refused by grounds 1 and 3 to 8.
-pub fn quote(head: Head, pool: &[u8], directory: &[u32], recipe: &mut [u32], job: &[u8]) -> Quoted
+// Quotes a job: what its take would answer. Writes only the recipe. Refused by grounds 1, 3 to 8, 11 and 12.
+pub fn quote(
+    head: Head,
+    pool: &[u8],
+    directory: &[u32],
+    index: &[u32],
+    recipe: &mut [u32],
+    job: &[u8],
+) -> Quoted
     ensures { λ r. ⌜ record { answer = r; recipe = now (recipe .exit) }
-        ≡ quoted head (now (pool .entry)) (now (directory .entry)) (now (recipe .entry)) (now (job .entry)) ⌝ }
+        ≡ quoted head (now (pool .entry)) (now (directory .entry)) (now (index .entry)) (now (recipe .entry)) (now (job .entry)) ⌝ }
 {
-    let ground = grounds::admission_ground(head, pool, directory, recipe, job);
+    let ground = grounds::admission_ground(head, pool, directory, index, recipe, job);
     if !refusal::accepted(ground) {
         return refused(ground);
     }
-    let step = survey::survey(head, pool, directory, recipe, job);
+    let step = survey::survey(head, pool, directory, index, recipe, job);
     let progress = step.progress;
     marks::settle(recipe, progress.recipe_length as usize, head.chunks);
     answered(job.len(), step)
 }
 
-// Takes a job: its new chunks go into the store. Refused as its quote is, with the head handed back and the store untouched.
+// Takes a job: its new chunks go into the store and its index. Refused as its quote is, with the head handed back, and store
+// and index untouched.
 pub fn take(
     head: Head,
     pool: &mut [u8],
     directory: &mut [u32],
+    index: &mut [u32],
     recipe: &mut [u32],
     job: &[u8],
 ) -> Taken
-    ensures { λ r. ⌜ record { answer = r; pool = now (pool .exit); directory = now (directory .exit); recipe = now (recipe .exit) }
-        ≡ taken head (now (pool .entry)) (now (directory .entry)) (now (recipe .entry)) (now (job .entry)) ⌝ }
+    ensures { λ r. ⌜ record {
+      answer = r;
+      pool = now (pool .exit);
+      directory = now (directory .exit);
+      index = now (index .exit);
+      recipe = now (recipe .exit);
+    }
+        ≡ taken head (now (pool .entry)) (now (directory .entry)) (now (index .entry)) (now (recipe .entry)) (now (job .entry)) ⌝ }
 {
-    let ground = grounds::admission_ground(head, pool, directory, recipe, job);
+    let ground = grounds::admission_ground(head, pool, directory, index, recipe, job);
     if !refusal::accepted(ground) {
         return Taken {
             quoted: refused(ground),
             head,
         };
     }
-    let step = survey::survey(head, pool, directory, recipe, job);
+    let step = survey::survey(head, pool, directory, index, recipe, job);
     let refusal = step.refusal;
     let progress = step.progress;
     let used = progress.recipe_length as usize;
@@ -125,7 +140,7 @@ pub fn take(
             head,
         };
     }
-    storing::store_new(head, pool, directory, recipe, used, job);
+    storing::store_new(head, pool, directory, index, recipe, used, job);
     marks::settle(recipe, used, head.chunks);
     Taken {
         quoted: answered(job.len(), step),

@@ -31,8 +31,8 @@ pub record Asked (held cs : List (List ℕ)) (job : List ℕ) (q : Quotation) : 
   pub all : q .answer .«new_bytes» + q .answer .«repeated_bytes» ≡ length job
   pub saving : q .answer .saving ≡ savingOf (length job) (q .answer .«new_bytes») (length cs)
 
-module _ (head : Head) (pool directory recipe job : List ℕ)
-    (h : accepted (quoted head pool directory recipe job .answer .refusal) ≡ true) where
+module _ (head : Head) (pool directory index recipe job : List ℕ)
+    (h : accepted (quoted head pool directory index recipe job .answer .refusal) ≡ true) where
   -- the chunks of the store and of the job
   abbrev held : List (List ℕ)
   held = contents pool directory (head .chunks .0)
@@ -41,19 +41,19 @@ module _ (head : Head) (pool directory recipe job : List ℕ)
   cs = chunks (head .window) job
 
   -- none of the grounds 1 and 3 to 5 holds
-  ground : accepted (admissionGround head pool directory recipe job) ≡ true
+  ground : accepted (admissionGround head pool directory index recipe job) ≡ true
   unfolding quoted
-  ground = by-test (accepted (admissionGround head pool directory recipe job)) refl
+  ground = by-test (accepted (admissionGround head pool directory index recipe job)) refl
     where
-      by-test : (t : Bool) → accepted (admissionGround head pool directory recipe job) ≡ t → t ≡ true
+      by-test : (t : Bool) → accepted (admissionGround head pool directory index recipe job) ≡ t → t ≡ true
       by-test true e = refl
       by-test false e = sym e ∙ rw e at h
 
-  pub passed : Passed head pool directory recipe job
-  passed = all-passed head pool directory recipe job ground
+  pub passed : Passed head pool directory index recipe job
+  passed = all-passed head pool directory index recipe job ground
 
   -- and no chunk is refused
-  walks : quoted head pool directory recipe job ≡ walked held (length job) recipe (jobWalk head pool directory recipe job)
+  walks : quoted head pool directory index recipe job ≡ walked held (length job) recipe (jobWalk head pool directory recipe job)
   unfolding quoted
   walks = rw ground
 
@@ -64,7 +64,7 @@ module _ (head : Head) (pool directory recipe job : List ℕ)
       by-test true e = refl
       by-test false e = sym e ∙ rw e at (rw walks at h)
 
-  pub asked : Asked held cs job (quoted head pool directory recipe job)
+  pub asked : Asked held cs job (quoted head pool directory index recipe job)
   asked =
       let all = surveyed.all-passed head pool directory recipe job (begun passed) whole in
       let ns = numbers held cs in

@@ -5,12 +5,13 @@ use mathlib.Core.Bool.{true, false}
 use mathlib.Core.List.{List, [], _++_}
 use lib.ListN.{length, take, drop}
 use Rattle.refusal.specs.Number.{accepted}
+use Rattle.chunker.specs.Bytes.{Bytes}
 use Rattle.store.specs.declared.Head.{Head}
 use Rattle.store.specs.Contents.{added}
 use Rattle.store.specs.Memory.{contents}
 use Rattle.marks.specs.Marks.{newChunks, settled}
 use Rattle.marks.specs.internal.Places.{NamesEarlier}
-use Rattle.storing.specs.Storing.{poolWith, directoryWith}
+use Rattle.storing.specs.Storing.{poolWith, directoryWith, indexWith}
 use Rattle.survey.specs.declared.Progress.{Progress}
 use Rattle.survey.specs.Walk.{Walk, jobWalk}
 use Rattle.survey.specs.internal.Snapshot.{Snapshot, Outcome, ends}
@@ -45,18 +46,19 @@ settledTo head job o =
     }
 
 -- what a take makes of one that refused a chunk
-abbrev pub stoppedTo : Head → List ℕ → List ℕ → Outcome → Taking
-stoppedTo head pool directory o =
+abbrev pub stoppedTo : Head → List ℕ → List ℕ → List ℕ → Outcome → Taking
+stoppedTo head pool directory index o =
     record {
       answer = record { quoted = refused (o .refusal); head = head };
       pool = pool;
       directory = directory;
+      index = index;
       recipe = settledRecipe head (o .snapshot);
     }
 
 -- and of one that refused none, by the chunks that are stored
-abbrev pub storedTo : Head → List ℕ → List ℕ → List ℕ → List (List ℕ) → Outcome → Taking
-storedTo head pool directory job new o =
+abbrev pub storedTo : Head → List ℕ → List ℕ → List ℕ → List ℕ → List (List ℕ) → Outcome → Taking
+storedTo head pool directory index job new o =
     record {
       answer = record {
         quoted = answered (length job) (o .refusal) (o .snapshot .progress);
@@ -64,43 +66,45 @@ storedTo head pool directory job new o =
       };
       pool = poolWith head pool new;
       directory = directoryWith head directory new;
+      index = indexWith head index new;
       recipe = settledRecipe head (o .snapshot);
     }
 
 -- those that its marks say are new
-abbrev pub newIn : Head → List ℕ → Outcome → List (List ℕ)
-newIn head job o =
-    newChunks (head .window) job (take (o .snapshot .progress .«recipe_length») (o .snapshot .recipe))
+abbrev pub newIn : List ℕ → Outcome → List (List ℕ)
+newIn job o =
+    newChunks job 0 (take (o .snapshot .progress .«recipe_length») (o .snapshot .recipe))
 
-module _ (head : Head) (pool directory recipe job : List ℕ) where
-  -- one of the grounds 1 and 3 to 5 holds
-  pub quote-refused : accepted (admissionGround head pool directory recipe job) ≡ false
-      → record { answer = refused (admissionGround head pool directory recipe job); recipe = recipe }
-      ≡ quoted head pool directory recipe job
+module _ (head : Head) (pool directory index recipe job : List ℕ) where
+  -- one of the grounds 1, 3 to 5, 11 and 12 holds
+  pub quote-refused : accepted (admissionGround head pool directory index recipe job) ≡ false
+      → record { answer = refused (admissionGround head pool directory index recipe job); recipe = recipe }
+      ≡ quoted head pool directory index recipe job
   unfolding quoted
   quote-refused h = rw h
 
-  pub take-refused : accepted (admissionGround head pool directory recipe job) ≡ false
+  pub take-refused : accepted (admissionGround head pool directory index recipe job) ≡ false
       → record {
-        answer = record { quoted = refused (admissionGround head pool directory recipe job); head = head };
+        answer = record { quoted = refused (admissionGround head pool directory index recipe job); head = head };
         pool = pool;
         directory = directory;
+        index = index;
         recipe = recipe;
       }
-      ≡ taken head pool directory recipe job
+      ≡ taken head pool directory index recipe job
   unfolding taken
   take-refused h = rw (← (quote-refused h), h)
 
   -- none of them holds, and the job is walked
-  module _ (h : accepted (admissionGround head pool directory recipe job) ≡ true) where
+  module _ (h : accepted (admissionGround head pool directory index recipe job) ≡ true) where
     abbrev held : List (List ℕ)
     held = contents pool directory (head .chunks .0)
 
     abbrev whole : Walk
     whole = jobWalk head pool directory recipe job
 
-    pub begins : Begun head pool directory recipe job
-    begins = begun (all-passed head pool directory recipe job h)
+    pub begins : Begun head pool directory index recipe job
+    begins = begun (all-passed head pool directory index recipe job h)
 
     -- what the survey counts
     abbrev progress : Progress
@@ -110,29 +114,29 @@ module _ (head : Head) (pool directory recipe job : List ℕ) where
     abbrev settles : List ℕ
     settles = settledRecipe head (surveyAfter head pool directory recipe (whole .passed))
 
-    pub quote-walked : record { answer = answered (length job) (whole .refusal) progress; recipe = settles }
-        ≡ quoted head pool directory recipe job
+    pub quote-walked : Bytes job → record { answer = answered (length job) (whole .refusal) progress; recipe = settles }
+        ≡ quoted head pool directory index recipe job
     unfolding quoted answered
-    quote-walked = rw (h, settled-recipe head pool directory recipe job begins)
+    quote-walked bytes = rw (h, settled-recipe head pool directory recipe job begins bytes)
 
     -- the survey
     abbrev pub survey : Outcome
     survey = ends (whole .refusal) (surveyAfter head pool directory recipe (whole .passed))
 
     -- a take whose walk refuses a chunk
-    pub take-stopped : accepted (whole .refusal) ≡ false → stoppedTo head pool directory survey ≡ taken head pool directory recipe job
+    pub take-stopped : Bytes job → accepted (whole .refusal) ≡ false → stoppedTo head pool directory index survey ≡ taken head pool directory index recipe job
     unfolding taken answered
-    take-stopped stops = rw (← quote-walked, stops, stops)
+    take-stopped bytes stops = rw (← (quote-walked bytes), stops, stops)
 
     -- and one whose walk refuses none
-    pub take-walked : accepted (whole .refusal) ≡ true
-        → storedTo head pool directory job (newIn head job survey) survey ≡ taken head pool directory recipe job
+    pub take-walked : Bytes job → accepted (whole .refusal) ≡ true
+        → storedTo head pool directory index job (newIn job survey) survey ≡ taken head pool directory index recipe job
     unfolding taken answered
-    take-walked walks =
+    take-walked bytes walks =
         let all = surveyed.all-passed head pool directory recipe job begins walks in
-        let new = surveyed.new-marked head pool directory recipe job begins walks in
+        let new = surveyed.new-marked head pool directory recipe job begins bytes walks in
         let q : Quotation = record { answer = answered (length job) (whole .refusal) progress; recipe = settles } in
-        let last : stores head pool directory (newOf head pool directory job) q ≡ taken head pool directory recipe job =
-        rw (← quote-walked, walks) in
-        ap (λ cs. storedTo head pool directory job cs survey) new
-        ∙ (ap (λ cs. stores head pool directory cs q) (ap (added held) all) ∙ last)
+        let last : stores head pool directory index (newOf head pool directory job) q ≡ taken head pool directory index recipe job =
+        rw (← (quote-walked bytes), walks) in
+        ap (λ cs. storedTo head pool directory index job cs survey) new
+        ∙ (ap (λ cs. stores head pool directory index cs q) (ap (added held) all) ∙ last)

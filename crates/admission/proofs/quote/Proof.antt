@@ -1,9 +1,12 @@
 -- `admission::quote` meets its contract: a survey, whose marks are then settled.
+use native.Mathlib.Omega.{arith}
 use mathlib.Core.Path.{_≡_, sym, ap, _∙_, subst}
 use mathlib.Core.Bool.{true}
 use borrow.Author.Needs.{needs}
 use borrow.Author.Tests.{not-true, not-false}
 use Rattle.refusal.specs.Number.{accepted}
+use Rattle.chunker.specs.Bytes.{Bytes}
+use Rattle.chunker.proofs.laws.ground.Soundness.{all-bytes}
 use Rattle.survey.specs.internal.Snapshot.{snapshot, ends}
 use Rattle.survey.specs.internal.Surveyed.{surveyAfter, surveyed}
 use Rattle.survey.specs.Walk.{jobWalk}
@@ -15,7 +18,7 @@ use Rattle.admission.proofs.quote.Tie as tie
 
 -- the places of the code that the needs below go back to: the start, and the place past the grounds
 abbrev start-of : tie.After-admission-ground → tie.Start
-start-of c = c .before .before .before .before .before .before
+start-of c = c .before .before .before .before .before .before .before
 
 abbrev tested-of : tie.After-survey → tie.Else1
 tested-of c = c .before .before
@@ -39,25 +42,29 @@ returns c =
     let ground = test .before .admission-ground .ensures in
     let refuses = sym (ap accepted ground) ∙ sym (test .accepted .ensures) ∙ not-true _ (c .before .if1 .taken) in
     rw (c .refused .ensures, ground)
-    (quote-refused (a .head) (a .pool .now) (a .directory .now) (a .recipe .now) (a .job .now) refuses)
+    (quote-refused (a .head) (a .pool .now) (a .directory .now) (a .index .now) (a .recipe .now) (a .job .now) refuses)
 
--- none of the grounds 1 and 3 to 5 holds
+-- none of the grounds 1, 3 to 5, 11 and 12 holds
 passes : (c : tie.Else1) → let a = start-of (c .before .before) .args in
-    accepted (admissionGround (a .head) (a .pool .now) (a .directory .now) (a .recipe .now) (a .job .now)) ≡ true
+    accepted (admissionGround (a .head) (a .pool .now) (a .directory .now) (a .index .now) (a .recipe .now) (a .job .now)) ≡ true
 passes c =
     let test = c .before in
     sym (ap accepted (test .before .admission-ground .ensures)) ∙ sym (test .accepted .ensures) ∙ not-false _ (c .if1 .left)
+
+-- the job's numbers are bytes
+bytes : (c : tie.Else1) → Bytes (start-of (c .before .before) .args .job .now)
+bytes c = all-bytes (start-of (c .before .before) .args .job .now) (λ i. omega (arith, c .before .before .before .before .shared-slice-known4 .given i))
 
 survey-requires : tie.Need-survey-requires
 survey-requires c κs =
     let tested = c .before in
     let a = start-of (tested .before .before) .args in
-    begins (a .head) (a .pool .now) (a .directory .now) (a .recipe .now) (a .job .now) (passes tested)
+    begins (a .head) (a .pool .now) (a .directory .now) (a .index .now) (a .recipe .now) (a .job .now) (passes tested)
 
 -- what the survey leaves
 surveys : (c : tie.After-survey) → let a = start-of (tested-of c .before .before) .args in
     let whole = jobWalk (a .head) (a .pool .now) (a .directory .now) (a .recipe .now) (a .job .now) in
-    record { refusal = c .survey .result .refusal; snapshot = snapshot (c .survey .result .progress) (c .survey .last .1 .1 .1 .0) }
+    record { refusal = c .survey .result .refusal; snapshot = snapshot (c .survey .result .progress) (c .survey .last .1 .1 .1 .1 .0) }
     ≡ ends (whole .refusal) (surveyAfter (a .head) (a .pool .now) (a .directory .now) (a .recipe .now) (whole .passed))
 unfolding surveyed
 surveys c = c .survey .ensures
@@ -69,12 +76,12 @@ settle-requires : tie.Need-settle-requires
 settle-requires c κs =
     let call = c .before .before .before .before .before in
     let a = start-of (tested-of call .before .before) .args in
-    let b = begins (a .head) (a .pool .now) (a .directory .now) (a .recipe .now) (a .job .now) (passes (tested-of call)) in
+    let b = begins (a .head) (a .pool .now) (a .directory .now) (a .index .now) (a .recipe .now) (a .job .now) (passes (tested-of call)) in
     subst (Settleable (a .head)) (sym (surveys call)) (
       used-places (a .head) (a .pool .now) (a .directory .now) (a .recipe .now) (a .job .now) b,
       (
         few-numbers (a .head) (a .pool .now) (a .directory .now) (a .recipe .now) (a .job .now) b,
-        earlier-named (a .head) (a .pool .now) (a .directory .now) (a .recipe .now) (a .job .now) b,
+        earlier-named (a .head) (a .pool .now) (a .directory .now) (a .recipe .now) (a .job .now) b (bytes (tested-of call)),
       ),
     )
 
@@ -82,7 +89,7 @@ answered-requires : tie.Need-answered-requires
 answered-requires c κs =
     let tested = tested-of (c .before .before .before .before .before .before .before .before) in
     let a = start-of (tested .before .before) .args in
-    begins (a .head) (a .pool .now) (a .directory .now) (a .recipe .now) (a .job .now) (passes tested) .jobLength
+    begins (a .head) (a .pool .now) (a .directory .now) (a .index .now) (a .recipe .now) (a .job .now) (passes tested) .jobLength
 
 same-length-2 : tie.Need-same-length-2
 same-length-2 c = search needs
@@ -94,7 +101,8 @@ returns-2 c =
     let a = start-of (tested-of call .before .before) .args in
     rw (c .answered .ensures, settle .settle .ensures)
     (ap (settledTo (a .head) (a .job .now)) (surveys call)
-    ∙ quote-walked (a .head) (a .pool .now) (a .directory .now) (a .recipe .now) (a .job .now) (passes (tested-of call)))
+    ∙ quote-walked (a .head) (a .pool .now) (a .directory .now) (a .index .now) (a .recipe .now) (a .job .now) (passes (tested-of call))
+    (bytes (tested-of call)))
 
 pub quote-spec : {M : Type 1} → statement M
 quote-spec =

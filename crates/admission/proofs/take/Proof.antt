@@ -1,9 +1,12 @@
 -- `admission::take` meets its contract: a survey, then a pass that stores the new chunks, and the marks are settled.
+use native.Mathlib.Omega.{arith}
 use mathlib.Core.Path.{_≡_, sym, ap, _∙_, subst}
 use mathlib.Core.Bool.{true}
 use borrow.Author.Needs.{needs}
 use borrow.Author.Tests.{not-true, not-false}
 use Rattle.refusal.specs.Number.{accepted}
+use Rattle.chunker.specs.Bytes.{Bytes}
+use Rattle.chunker.proofs.laws.ground.Soundness.{all-bytes}
 use Rattle.storing.specs.Storing.{stored}
 use Rattle.storing.specs.internal.Storable.{Storable}
 use Rattle.survey.specs.internal.Begun.{Begun}
@@ -18,16 +21,16 @@ use Rattle.admission.proofs.take.Tie as tie
 -- the places of the code that the needs below go back to: the start, the place past the grounds, the survey, and the place
 -- where no chunk was refused
 abbrev start-of : tie.After-admission-ground → tie.Start
-start-of c = c .before .before .before .before .before .before .before .before
+start-of c = c .before .before .before .before .before .before .before .before .before .before
 
 abbrev tested-of : tie.After-survey → tie.Else1
-tested-of c = c .before .before .before .before
+tested-of c = c .before .before .before .before .before
 
 abbrev call-of : tie.After-accepted2 → tie.After-survey
 call-of c = c .before .before .before .before .before
 
 abbrev passed-of : tie.After-store-new → tie.Else2
-passed-of c = c .before .before .before .before
+passed-of c = c .before .before .before .before .before
 
 admission-ground-requires : tie.Need-admission-ground-requires
 admission-ground-requires c κs = search needs
@@ -47,6 +50,9 @@ same-length-2 c = search needs
 same-length-3 : tie.Need-same-length-3
 same-length-3 c = search needs
 
+same-length-4 : tie.Need-same-length-4
+same-length-4 c = search needs
+
 returns : tie.Need-returns
 returns c =
     let test = c .before .before in
@@ -54,29 +60,35 @@ returns c =
     let ground = test .before .admission-ground .ensures in
     let refuses = sym (ap accepted ground) ∙ sym (test .accepted .ensures) ∙ not-true _ (c .before .if1 .taken) in
     rw (c .refused .ensures, ground)
-    (take-refused (a .head) (a .pool .now) (a .directory .now) (a .recipe .now) (a .job .now) refuses)
+    (take-refused (a .head) (a .pool .now) (a .directory .now) (a .index .now) (a .recipe .now) (a .job .now) refuses)
 
--- none of the grounds 1 and 3 to 5 holds
+-- none of the grounds 1, 3 to 5, 11 and 12 holds
 passes : (c : tie.Else1) → let a = start-of (c .before .before) .args in
-    accepted (admissionGround (a .head) (a .pool .now) (a .directory .now) (a .recipe .now) (a .job .now)) ≡ true
+    accepted (admissionGround (a .head) (a .pool .now) (a .directory .now) (a .index .now) (a .recipe .now) (a .job .now)) ≡ true
 passes c =
     let test = c .before in
     sym (ap accepted (test .before .admission-ground .ensures)) ∙ sym (test .accepted .ensures) ∙ not-false _ (c .if1 .left)
 
+-- the job's numbers are bytes
+bytes : (c : tie.Else1) → Bytes (start-of (c .before .before) .args .job .now)
+bytes c =
+    all-bytes (start-of (c .before .before) .args .job .now)
+    (λ i. omega (arith, c .before .before .before .before .before .before .before .shared-slice-known .given i))
+
 -- so the job may be surveyed
 begins-at : (c : tie.Else1) → let a = start-of (c .before .before) .args in
-    Begun (a .head) (a .pool .now) (a .directory .now) (a .recipe .now) (a .job .now)
+    Begun (a .head) (a .pool .now) (a .directory .now) (a .index .now) (a .recipe .now) (a .job .now)
 begins-at c =
     let a = start-of (c .before .before) .args in
-    begins (a .head) (a .pool .now) (a .directory .now) (a .recipe .now) (a .job .now) (passes c)
+    begins (a .head) (a .pool .now) (a .directory .now) (a .index .now) (a .recipe .now) (a .job .now) (passes c)
 
 survey-requires : tie.Need-survey-requires
-survey-requires c κs = begins-at (c .before .before .before)
+survey-requires c κs = begins-at (c .before .before .before .before)
 
 -- what the survey leaves
 surveys : (c : tie.After-survey) → let a = start-of (tested-of c .before .before) .args in
-    record { refusal = c .survey .result .refusal; snapshot = snapshot (c .survey .result .progress) (c .survey .last .1 .1 .1 .0) }
-    ≡ survey (a .head) (a .pool .now) (a .directory .now) (a .recipe .now) (a .job .now) (passes (tested-of c))
+    record { refusal = c .survey .result .refusal; snapshot = snapshot (c .survey .result .progress) (c .survey .last .1 .1 .1 .1 .0) }
+    ≡ survey (a .head) (a .pool .now) (a .directory .now) (a .index .now) (a .recipe .now) (a .job .now) (passes (tested-of c))
 unfolding surveyed
 surveys c = c .survey .ensures
 
@@ -89,7 +101,7 @@ accepted-requires-2 c κs = search needs
 -- its marks may be settled
 settleable : (c : tie.After-survey) → let a = start-of (tested-of c .before .before) .args in
     Settleable (a .head)
-    (record { refusal = c .survey .result .refusal; snapshot = snapshot (c .survey .result .progress) (c .survey .last .1 .1 .1 .0) })
+    (record { refusal = c .survey .result .refusal; snapshot = snapshot (c .survey .result .progress) (c .survey .last .1 .1 .1 .1 .0) })
 settleable c =
     let a = start-of (tested-of c .before .before) .args in
     let b = begins-at (tested-of c) in
@@ -97,7 +109,7 @@ settleable c =
       used-places (a .head) (a .pool .now) (a .directory .now) (a .recipe .now) (a .job .now) b,
       (
         few-numbers (a .head) (a .pool .now) (a .directory .now) (a .recipe .now) (a .job .now) b,
-        earlier-named (a .head) (a .pool .now) (a .directory .now) (a .recipe .now) (a .job .now) b,
+        earlier-named (a .head) (a .pool .now) (a .directory .now) (a .recipe .now) (a .job .now) b (bytes (tested-of c)),
       ),
     )
 
@@ -107,14 +119,17 @@ settle-requires c κs = settleable (call-of (c .before .before))
 refused-requires-2 : tie.Need-refused-requires-2
 refused-requires-2 c κs = search needs
 
-same-length-4 : tie.Need-same-length-4
-same-length-4 c = search needs
-
 same-length-5 : tie.Need-same-length-5
 same-length-5 c = search needs
 
 same-length-6 : tie.Need-same-length-6
 same-length-6 c = search needs
+
+same-length-7 : tie.Need-same-length-7
+same-length-7 c = search needs
+
+same-length-8 : tie.Need-same-length-8
+same-length-8 c = search needs
 
 returns-2 : tie.Need-returns-2
 returns-2 c =
@@ -124,59 +139,66 @@ returns-2 c =
     let a = start-of (tested-of call .before .before) .args in
     let stops = sym (ap (λ o. accepted (o .refusal)) (surveys call)) ∙ sym (stop .before .accepted2 .ensures) ∙ not-true _ (stop .if2 .taken) in
     rw (c .refused2 .ensures, settle .settle .ensures)
-    (ap (stoppedTo (a .head) (a .pool .now) (a .directory .now)) (surveys call)
-    ∙ take-stopped (a .head) (a .pool .now) (a .directory .now) (a .recipe .now) (a .job .now) (passes (tested-of call)) stops)
+    (ap (stoppedTo (a .head) (a .pool .now) (a .directory .now) (a .index .now)) (surveys call)
+    ∙ take-stopped (a .head) (a .pool .now) (a .directory .now) (a .index .now) (a .recipe .now) (a .job .now) (passes (tested-of call))
+    (bytes (tested-of call)) stops)
 
 -- no chunk is refused
 walks : (c : tie.Else2) → let call = call-of (c .before) in
     let a = start-of (tested-of call .before .before) .args in
-    accepted (survey (a .head) (a .pool .now) (a .directory .now) (a .recipe .now) (a .job .now) (passes (tested-of call)) .refusal) ≡ true
+    accepted (survey (a .head) (a .pool .now) (a .directory .now) (a .index .now) (a .recipe .now) (a .job .now) (passes (tested-of call)) .refusal) ≡ true
 walks c =
     let call = call-of (c .before) in
     sym (ap (λ o. accepted (o .refusal)) (surveys call)) ∙ sym (c .before .accepted2 .ensures) ∙ not-false _ (c .if2 .left)
 
 store-new-requires : tie.Need-store-new-requires
 store-new-requires c κs =
-    let passed = c .before .before .before in
+    let passed = c .before .before .before .before in
     let call = call-of (passed .before) in
     let a = start-of (tested-of call .before .before) .args in
-    subst (λ (o : Outcome). Storable (a .head) (a .pool .now) (a .directory .now) (o .snapshot .recipe) (o .snapshot .progress .«recipe_length») (a .job .now))
+    subst (λ (o : Outcome). Storable (a .head) (a .pool .now) (a .directory .now) (a .index .now) (o .snapshot .recipe) (o .snapshot .progress .«recipe_length») (a .job .now))
     (sym (surveys call))
-    (storable (a .head) (a .pool .now) (a .directory .now) (a .recipe .now) (a .job .now) (begins-at (tested-of call)) (walks passed))
+    (storable (a .head) (a .pool .now) (a .directory .now) (a .recipe .now) (a .job .now) (begins-at (tested-of call))
+    (bytes (tested-of call)) (walks passed))
 
 settle-requires-2 : tie.Need-settle-requires-2
-settle-requires-2 c κs = settleable (call-of (passed-of (c .before .before .before .before .before) .before))
+settle-requires-2 c κs = settleable (call-of (passed-of (c .before .before .before .before .before .before .before) .before))
 
 answered-requires : tie.Need-answered-requires
 answered-requires c κs =
     let settle = c .before .before in
-    let stored = settle .before .before .before .before .before .before in
+    let stored = settle .before .before .before .before .before .before .before .before in
     begins-at (tested-of (call-of (passed-of stored .before))) .jobLength
 
 head-after-requires : tie.Need-head-after-requires
 head-after-requires c κs = search needs
 
-same-length-7 : tie.Need-same-length-7
-same-length-7 c = search needs
-
-same-length-8 : tie.Need-same-length-8
-same-length-8 c = search needs
-
 same-length-9 : tie.Need-same-length-9
 same-length-9 c = search needs
+
+same-length-10 : tie.Need-same-length-10
+same-length-10 c = search needs
+
+same-length-11 : tie.Need-same-length-11
+same-length-11 c = search needs
+
+same-length-12 : tie.Need-same-length-12
+same-length-12 c = search needs
 
 returns-3 : tie.Need-returns-3
 unfolding stored
 returns-3 c =
     let settle = c .before .before .before .before in
-    let stored = settle .before .before .before .before .before .before in
+    let stored = settle .before .before .before .before .before .before .before .before in
     let call = call-of (passed-of stored .before) in
     let a = start-of (tested-of call .before .before) .args in
     let pool = ap (λ s. s .pool) (stored .store-new .ensures) in
     let directory = ap (λ s. s .directory) (stored .store-new .ensures) in
-    rw (c .head-after .ensures, c .before .answered .ensures, settle .settle2 .ensures, pool, directory)
-    (ap (λ (o : Outcome). storedTo (a .head) (a .pool .now) (a .directory .now) (a .job .now) (newIn (a .head) (a .job .now) o) o) (surveys call)
-    ∙ take-walked (a .head) (a .pool .now) (a .directory .now) (a .recipe .now) (a .job .now) (passes (tested-of call)) (walks (passed-of stored)))
+    let index = ap (λ s. s .index) (stored .store-new .ensures) in
+    rw (c .head-after .ensures, c .before .answered .ensures, settle .settle2 .ensures, pool, directory, index)
+    (ap (λ (o : Outcome). storedTo (a .head) (a .pool .now) (a .directory .now) (a .index .now) (a .job .now) (newIn (a .job .now) o) o) (surveys call)
+    ∙ take-walked (a .head) (a .pool .now) (a .directory .now) (a .index .now) (a .recipe .now) (a .job .now) (passes (tested-of call))
+    (bytes (tested-of call)) (walks (passed-of stored)))
 
 pub take-spec : {M : Type 1} → statement M
 take-spec =
@@ -188,21 +210,24 @@ take-spec =
     same-length
     same-length-2
     same-length-3
+    same-length-4
     returns
     survey-requires
     cast-used
     accepted-requires-2
     settle-requires
     refused-requires-2
-    same-length-4
     same-length-5
     same-length-6
+    same-length-7
+    same-length-8
     returns-2
     store-new-requires
     settle-requires-2
     answered-requires
     head-after-requires
-    same-length-7
-    same-length-8
     same-length-9
+    same-length-10
+    same-length-11
+    same-length-12
     returns-3)

@@ -22,31 +22,31 @@ use Rattle.admission.proofs.laws.Surveyed.{room}
 use Rattle.admission.proofs.laws.Outcomes.{begins}
 
 -- what a take answers and leaves in the recipe is its quote
-pub same-quotation : (head : Head) (pool directory recipe job : List ℕ)
-    → quotationOf (taken head pool directory recipe job) ≡ quoted head pool directory recipe job
+pub same-quotation : (head : Head) (pool directory index recipe job : List ℕ)
+    → quotationOf (taken head pool directory index recipe job) ≡ quoted head pool directory index recipe job
 unfolding taken
-same-quotation head pool directory recipe job = by-test (accepted (q .answer .refusal))
+same-quotation head pool directory index recipe job = by-test (accepted (q .answer .refusal))
   where
     q : Quotation
-    q = quoted head pool directory recipe job
+    q = quoted head pool directory index recipe job
 
     by-test : (t : Bool) → quotationOf
-        (cond t (stores head pool directory (newOf head pool directory job) q) (refuses head pool directory q)) ≡ q
+        (cond t (stores head pool directory index (newOf head pool directory job) q) (refuses head pool directory index q)) ≡ q
     by-test true = refl
     by-test false = refl
 
 -- so it is refused as its quote is
-pub same-refusal : (head : Head) (pool directory recipe job : List ℕ)
-    → taken head pool directory recipe job .answer .quoted .refusal ≡ quoted head pool directory recipe job .answer .refusal
-same-refusal head pool directory recipe job = ap (λ q. q .answer .refusal) (same-quotation head pool directory recipe job)
+pub same-refusal : (head : Head) (pool directory index recipe job : List ℕ)
+    → taken head pool directory index recipe job .answer .quoted .refusal ≡ quoted head pool directory index recipe job .answer .refusal
+same-refusal head pool directory index recipe job = ap (λ q. q .answer .refusal) (same-quotation head pool directory index recipe job)
 
-module _ (head : Head) (pool directory recipe job : List ℕ) where
-  -- the chunks of the store, the first of the grounds 1 and 3 to 5, and the walk
+module _ (head : Head) (pool directory index recipe job : List ℕ) where
+  -- the chunks of the store, the first of the grounds 1, 3 to 5, 11 and 12, and the walk
   abbrev held : List (List ℕ)
   held = contents pool directory (head .chunks .0)
 
   abbrev ground : Refusal
-  ground = admissionGround head pool directory recipe job
+  ground = admissionGround head pool directory index recipe job
 
   abbrev whole : Walk
   whole = jobWalk head pool directory recipe job
@@ -57,28 +57,28 @@ module _ (head : Head) (pool directory recipe job : List ℕ) where
 
   -- it is the quote with a recipe of as many places
   same-places : (other : List ℕ) → length other ≡ length recipe
-      → quoted head pool directory other job ≡ quotedTo other (accepted ground)
+      → quoted head pool directory index other job ≡ quotedTo other (accepted ground)
   unfolding quoted admissionGround recipeAllowed
   same-places other e = rw e
 
   -- a quote keeps the places of the recipe
-  places-kept : length (quoted head pool directory recipe job .recipe) ≡ length recipe
+  places-kept : length (quoted head pool directory index recipe job .recipe) ≡ length recipe
   unfolding quoted
   places-kept = by-ground (accepted ground) refl
     where
       by-ground : (t : Bool) → accepted ground ≡ t → length (quotedTo recipe t .recipe) ≡ length recipe
       by-ground true h =
           let ds = whole .passed in
-          let fits = room head pool directory recipe job (begins head pool directory recipe job h) in
+          let fits = room head pool directory recipe job (begins head pool directory index recipe job h) in
           noted-length recipe (numbers held ds) (omega (arith, length-numbers held ds, fits .places))
       by-ground false h = refl
 
   -- asked again, with the recipe that it left, it tells the same
-  quoted-again : quoted head pool directory (quoted head pool directory recipe job .recipe) job
-      ≡ quoted head pool directory recipe job
+  quoted-again : quoted head pool directory index (quoted head pool directory index recipe job .recipe) job
+      ≡ quoted head pool directory index recipe job
   unfolding quoted
   quoted-again =
-      same-places (quoted head pool directory recipe job .recipe) places-kept ∙ by-ground (accepted ground)
+      same-places (quoted head pool directory index recipe job .recipe) places-kept ∙ by-ground (accepted ground)
     where
       by-ground : (t : Bool) → quotedTo (quotedTo recipe t .recipe) t ≡ quotedTo recipe t
       by-ground true =
@@ -88,6 +88,6 @@ module _ (head : Head) (pool directory recipe job : List ℕ) where
       by-ground false = refl
 
   -- so a take that is lent the recipe as its quote left it tells what the quote told
-  pub taken-after : quotationOf (taken head pool directory (quoted head pool directory recipe job .recipe) job)
-      ≡ quoted head pool directory recipe job
-  taken-after = same-quotation head pool directory (quoted head pool directory recipe job .recipe) job ∙ quoted-again
+  pub taken-after : quotationOf (taken head pool directory index (quoted head pool directory index recipe job .recipe) job)
+      ≡ quoted head pool directory index recipe job
+  taken-after = same-quotation head pool directory index (quoted head pool directory index recipe job .recipe) job ∙ quoted-again

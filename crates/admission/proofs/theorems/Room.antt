@@ -32,11 +32,11 @@ use Rattle.admission.proofs.theorems.ChunkCount.{chunk-count}
 use Rattle.admission.proofs.theorems.QuoteAndTake.{same-refusal}
 
 -- a job is accepted by quote and take
-pub record Accepts (head : Head) (pool directory recipe job : List ℕ) : Type 0 where
-  pub quotes : accepted (quoted head pool directory recipe job .answer .refusal) ≡ true
-  pub takes : accepted (taken head pool directory recipe job .answer .quoted .refusal) ≡ true
+pub record Accepts (head : Head) (pool directory index recipe job : List ℕ) : Type 0 where
+  pub quotes : accepted (quoted head pool directory index recipe job .answer .refusal) ≡ true
+  pub takes : accepted (taken head pool directory index recipe job .answer .quoted .refusal) ≡ true
 
-module _ (head : Head) (pool directory recipe job : List ℕ) where
+module _ (head : Head) (pool directory index recipe job : List ℕ) where
   -- the chunks of the store and of the job
   abbrev held : List (List ℕ)
   held = contents pool directory (head .chunks .0)
@@ -46,14 +46,14 @@ module _ (head : Head) (pool directory recipe job : List ℕ) where
 
   -- "A job that has room is accepted": for each chunk that it may have, a place of the recipe and an unused entry, and for each
   -- byte an unused one of the pool
-  pub has-room : Bytes job → accepted (admissionGround head pool directory recipe job) ≡ true
+  pub has-room : Bytes job → accepted (admissionGround head pool directory index recipe job) ≡ true
       → let most = length job / (head .window + 1) + 1 in
       most ≤ length recipe
       → head .chunks .0 + most ≤ entries directory
       → head .filled .0 + length job ≤ length pool
-      → Accepts head pool directory recipe job
+      → Accepts head pool directory index recipe job
   has-room bytes none places numbers room =
-      let p = all-passed head pool directory recipe job none in
+      let p = all-passed head pool directory index recipe job none in
       let w = window-bounds (head .window) (p .window) in
       let few = chunk-count (head .window) (w .0) (w .1) job bytes in
       let count = contents-length pool directory 0 (head .chunks .0) in
@@ -64,22 +64,22 @@ module _ (head : Head) (pool directory recipe job : List ℕ) where
         entries = omega (arith, length-grown held cs, added-most held cs, few, count, numbers);
         bytes = omega (arith, total-grown held cs, total-both held cs, total-chunks (head .window) job, full, room);
       }) in
-      let quotes = ap accepted (quote-refusal head pool directory recipe job none) ∙ walks in
-      record { quotes = quotes; takes = ap accepted (same-refusal head pool directory recipe job) ∙ quotes }
+      let quotes = ap accepted (quote-refusal head pool directory index recipe job none) ∙ walks in
+      record { quotes = quotes; takes = ap accepted (same-refusal head pool directory index recipe job) ∙ quotes }
 
   -- a quote or a take of the job reports a ground
   abbrev pub Reports : Refusal → Type 0
   Reports ground =
-      (quoted head pool directory recipe job .answer .refusal ≡ ground)
-      ⊎ (taken head pool directory recipe job .answer .quoted .refusal ≡ ground)
+      (quoted head pool directory index recipe job .answer .refusal ≡ ground)
+      ⊎ (taken head pool directory index recipe job .answer .quoted .refusal ≡ ground)
 
   -- one of 6 to 8 is reported where no earlier ground holds and the walk ends with it
-  reported : (ground : Refusal) → 6 ≤ numberOf ground → Reports ground
-      → (accepted (admissionGround head pool directory recipe job) ≡ true)
+  reported : (ground : Refusal) → 6 ≤ numberOf ground → numberOf ground ≤ 8 → Reports ground
+      → (accepted (admissionGround head pool directory index recipe job) ≡ true)
       × (jobWalk head pool directory recipe job .refusal ≡ ground)
-  reported ground late =
-      ⊎-elim (chunk-refused head pool directory recipe job ground late)
-      (λ e. chunk-refused head pool directory recipe job ground late (sym (same-refusal head pool directory recipe job) ∙ e))
+  reported ground late soon =
+      ⊎-elim (chunk-refused head pool directory index recipe job ground late soon)
+      (λ e. chunk-refused head pool directory index recipe job ground late soon (sym (same-refusal head pool directory index recipe job) ∙ e))
 
   -- what a job lacks of which a chunk is refused
   lacks : (ground : Refusal) → jobWalk head pool directory recipe job .refusal ≡ ground
@@ -92,19 +92,19 @@ module _ (head : Head) (pool directory recipe job : List ℕ) where
 
   -- "At this piece, the recipe is full": the job has more chunks than the recipe has places
   pub full-recipe : Reports RecipeFull → length recipe < length (chunks (head .window) job)
-  full-recipe r = lacks RecipeFull (reported RecipeFull (omega arith) r .1)
+  full-recipe r = lacks RecipeFull (reported RecipeFull (omega arith) (omega arith) r .1)
 
   -- "This piece is new and the directory has no unused entry": store and job have more chunks than the directory has entries
   pub full-directory : Reports DirectoryFull → entries directory < head .chunks .0 + length (newOf head pool directory job)
   full-directory r =
-      let none = reported DirectoryFull (omega arith) r in
+      let none = reported DirectoryFull (omega arith) (omega arith) r in
       let more : entries directory < length (grown held cs) = lacks DirectoryFull (none .1) in
       omega (arith, more, length-grown held cs, contents-length pool directory 0 (head .chunks .0))
 
   -- "This piece is new and longer than the pool bytes after filled": store and new chunks have more bytes than the pool
   pub full-pool : Reports PoolFull → length pool < head .filled .0 + total (newOf head pool directory job)
   full-pool r =
-      let none = reported PoolFull (omega arith) r in
-      let p = all-passed head pool directory recipe job (none .0) in
+      let none = reported PoolFull (omega arith) (omega arith) r in
+      let p = all-passed head pool directory index recipe job (none .0) in
       let more : length pool < total (grown held cs) = lacks PoolFull (none .1) in
       omega (arith, more, total-grown held cs, total-contents head pool directory (p .fitting))

@@ -14,10 +14,10 @@ use Rattle.admission.specs.Quote.{quoted}
 use Rattle.admission.proofs.laws.Asked.{asked, chunks-few}
 
 -- a recipe has at most 65,535 numbers, which travel in 2,048 packets: a saving is at least −147,456
-pub least-saving : (head : Head) (pool directory recipe job : List ℕ)
-    → accepted (quoted head pool directory recipe job .answer .refusal) ≡ true
-    → negsuc 147455 ≤ℤ quoted head pool directory recipe job .answer .saving
-least-saving head pool directory recipe job h =
-    let told = asked head pool directory recipe job h in
+pub least-saving : (head : Head) (pool directory index recipe job : List ℕ)
+    → accepted (quoted head pool directory index recipe job .answer .refusal) ≡ true
+    → negsuc 147455 ≤ℤ quoted head pool directory index recipe job .answer .saving
+least-saving head pool directory index recipe job h =
+    let told = asked head pool directory index recipe job h in
     rw (told .saving)
-    (at-least (length job) _ _ (omega (arith, told .all)) (chunks-few head pool directory recipe job h))
+    (at-least (length job) _ _ (omega (arith, told .all)) (chunks-few head pool directory index recipe job h))

@@ -226,7 +226,7 @@ first-requires c κs =
     let s = fits-of (c .before) in
     let m = s .pre .1 .0 in (
       head-small (job-of s) (s .args .recipe .now) (s .args .progress .«recipe_length») (m .used) (m .linked .few) (heads-of s) (s .args .own) (m .ownHeads)
-      (chain-small s),
+          (chain-small s),
       omega (arith, s .pre .1 .1 .small),
     )
 

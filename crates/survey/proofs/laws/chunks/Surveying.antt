@@ -98,7 +98,7 @@ set-length true xs i x = length-set xs i x
 set-length false xs i x = refl
 
 -- an index that ground 11 does not refuse has room for the directory's entries
-length-fits : (directory index : List ℕ) → lengthAllowed directory index ≡ true → length index ≡ chains + entries directory
+pub length-fits : (directory index : List ℕ) → lengthAllowed directory index ≡ true → length index ≡ chains + entries directory
 unfolding lengthAllowed
 length-fits directory index h = eqb-true (length index) (chains + entries directory) h
 
