@@ -17,13 +17,15 @@
 #define JOB_BYTES 4096
 #define POOL_BYTES 8192
 #define ENTRIES 1024
+#define INDEX_NUMBERS (HIRUNVEL_CHAINS + ENTRIES)
 #define RECIPE_NUMBERS 1024
 #define PART_BYTES 64
 
-/* The store. The library has no memory of its own: each call is lent these three. */
+/* The store. The library has no memory of its own: each call is lent these, a quote and a take the index too. */
 static uint32_t head[3]; /* the window, the number of chunks, the pool's bytes in use */
 static uint8_t pool[POOL_BYTES];
 static uint32_t directory[2 * ENTRIES];
+static uint32_t chunk_index[INDEX_NUMBERS]; /* the chains along which equal chunks are found */
 
 /* A job, and the recipe that its quote or take leaves. */
 struct job {
@@ -65,6 +67,13 @@ static void read_job(const char *name, struct job *job)
     fclose(file);
 }
 
+/* Opens the store. Of its memory only the index must be prepared: each byte of a fresh one is FF. */
+static void open_store(void)
+{
+    check(hirunvel_store_open(WINDOW, head), "hirunvel_store_open");
+    memset(chunk_index, 0xFF, sizeof chunk_index);
+}
+
 /* What a quote or a take answers: the recipe's length, new bytes, repeated bytes; and the saving. */
 struct terms {
     uint64_t counts[3];
@@ -88,8 +97,8 @@ static struct terms quote(struct job *job)
 {
     struct terms terms;
 
-    check(hirunvel_store_quote(head, pool, POOL_BYTES, directory, 2 * ENTRIES, job->recipe, RECIPE_NUMBERS,
-                               job->bytes, job->length, terms.counts, &terms.saving),
+    check(hirunvel_store_quote(head, pool, POOL_BYTES, directory, 2 * ENTRIES, chunk_index, INDEX_NUMBERS,
+                               job->recipe, RECIPE_NUMBERS, job->bytes, job->length, terms.counts, &terms.saving),
           "hirunvel_store_quote");
     printf("%s, quoted\n", job->name);
     return terms;
@@ -100,8 +109,8 @@ static struct terms take(struct job *job)
 {
     struct terms terms;
 
-    check(hirunvel_store_take(head, pool, POOL_BYTES, directory, 2 * ENTRIES, job->recipe, RECIPE_NUMBERS,
-                              job->bytes, job->length, terms.counts, &terms.saving),
+    check(hirunvel_store_take(head, pool, POOL_BYTES, directory, 2 * ENTRIES, chunk_index, INDEX_NUMBERS,
+                              job->recipe, RECIPE_NUMBERS, job->bytes, job->length, terms.counts, &terms.saving),
           "hirunvel_store_take");
     job->chunks = (size_t)terms.counts[0];
     printf("%s, taken\n", job->name);
@@ -195,7 +204,7 @@ int main(int argc, char **argv)
     read_job(argv[1], &label);
     read_job(argv[2], &revision);
 
-    check(hirunvel_store_open(WINDOW, head), "hirunvel_store_open");
+    open_store();
     taken = take(&label);
     print_terms(&label, &taken);
     scan_in_parts(&label);

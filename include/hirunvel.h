@@ -21,9 +21,9 @@
  * first number of the scanner or the head.
  *
  * Link with libhirunvel.a, which is for x86-64 with the System V calling convention. It needs no other library, not even
- * the C library. A call needs at most 1 KiB of stack; this is measured, not proved. The code uses the SSE2 registers and
- * the red zone, the 128 bytes below the stack pointer. So in a kernel or an interrupt handler, call it only if these
- * registers are saved and no interrupt uses the same stack.
+ * the C library. A quote or a take needs about 16 KiB of stack, any other call at most 1 KiB; this is measured, not
+ * proved. The code uses the SSE2 registers and the red zone, the 128 bytes below the stack pointer. So in a kernel or
+ * an interrupt handler, call it only if these registers are saved and no interrupt uses the same stack.
  */
 #ifndef HIRUNVEL_H
 #define HIRUNVEL_H
@@ -47,11 +47,13 @@ extern "C" {
 #define HIRUNVEL_POOL_FULL 8u      /* a chunk of the job is new, and longer than the pool bytes that are left */
 #define HIRUNVEL_CHUNK_NUMBER 9u   /* a chunk number is not below the number of chunks */
 #define HIRUNVEL_OUTPUT_SHORT 10u  /* the output is shorter than the rebuilt job */
+#define HIRUNVEL_INDEX_LENGTH 11u  /* the index has another length than HIRUNVEL_CHAINS + directory_len / 2 */
+#define HIRUNVEL_INDEX 12u         /* its chains do not meet every chunk just once under its own sum, and nothing else */
 
 /*
  * The largest accepted window, in bytes, and the largest accepted lengths. Every length counts elements: bytes for a
- * job and a pool, 32-bit numbers for a directory and a recipe. A directory has two numbers per entry, so 131,070
- * numbers are 65,535 entries. A part and an output may have any length.
+ * job and a pool, 32-bit numbers for a directory, an index and a recipe. A directory has two numbers per entry, so
+ * 131,070 numbers are 65,535 entries. A part and an output may have any length.
  */
 #define HIRUNVEL_WINDOW_LIMIT 64u
 #define HIRUNVEL_JOB_LIMIT 16777216u
@@ -64,6 +66,9 @@ extern "C" {
  * 256 * w + 1 bytes; a last chunk that no cut ends is shorter by at least one.
  */
 #define HIRUNVEL_CHUNK_LIMIT 16385u
+
+/* The chains of an index. An index has HIRUNVEL_CHAINS + directory_len / 2 numbers. */
+#define HIRUNVEL_CHAINS 1024u
 
 /*
  * A scanner finds where the chunks of a job end. It is four numbers:
@@ -100,8 +105,8 @@ uint32_t hirunvel_scanner_feed(uint32_t scanner[4], const uint8_t *part, size_t 
 uint32_t hirunvel_scanner_finish(uint32_t scanner[4], uint64_t *count);
 
 /*
- * A store is a head, a pool of chunk bytes, and a directory. A directory entry is two numbers: a chunk's offset in the
- * pool, from 0, and its length. The head is three numbers:
+ * A store is a head, a pool of chunk bytes, a directory, and an index. A directory entry is two numbers: a chunk's
+ * offset in the pool, from 0, and its length. The head is three numbers:
  *
  *   head[0]  the window
  *   head[1]  chunks: the number of entries in use
@@ -117,14 +122,33 @@ uint32_t hirunvel_scanner_finish(uint32_t scanner[4], uint64_t *count);
  * Each call that is lent a store tests this entry by entry, so its time grows with the number of chunks. What the pool
  * and the directory of a fresh store hold does not matter.
  *
+ * The index leads from the bytes of a chunk to its number; only a quote and a take are lent it. It has HIRUNVEL_CHAINS
+ * heads, then one link per directory entry, in use or not. A head holds the number of its chain's first chunk. The link
+ * of chunk n, index[HIRUNVEL_CHAINS + n], holds the number of the chunk after it; 0xFFFFFFFF ends the chain. A chunk
+ * belongs on the chain that the top ten bits of its Gear sum name, sum >> 22. The sum starts at 0, and each byte b makes
+ * it 2 * sum + gear[b], kept to 32 bits. gear[0] is 270369; each further one of the 256 entries is made from a copy x of
+ * the entry before it, in 32 bits, by x ^= x << 13, x ^= x >> 17, x ^= x << 5.
+ *
+ * To make the index of a fresh store, set each of its bytes to FF, as memset(index, 0xFF, sizeof index) does for an
+ * array. Hand it on from call to call, as head, pool and directory: a take enters each new chunk at the front of its
+ * chain. A store that was opened fresh with such an index, and that only takes have changed since, is never refused by
+ * HIRUNVEL_INDEX_LENGTH or HIRUNVEL_INDEX. To make an index for a store that has none, start from a fresh one and enter
+ * the chunks in any order: for each n, index[HIRUNVEL_CHAINS + n] gets what the head of its chain holds, and the head n.
+ *
+ * HIRUNVEL_INDEX holds unless the chains, each followed from its head to its end, meet every chunk of the store just
+ * once, on the chain of its own sum, and nothing else. The order of the chunks on a chain does not matter, and links of
+ * entries that are not in use are not read. Every quote and take tests this, which takes time in proportion to the
+ * number of chunks in the store, about 10 nanoseconds a chunk, however short the job is. So a small job into a large
+ * store is slower than a linear search of the store for the job's few chunks would be.
+ *
  * A chunk has at least window + 1 bytes, the last of a job at least 1. So a job of n bytes has at most
  * n / (window + 1) + 1 chunks. This room is enough for any job of n bytes: that many recipe numbers, that many unused
  * entries and n pool bytes after filled. With it, and if none of HIRUNVEL_WINDOW, HIRUNVEL_JOB_LENGTH,
- * HIRUNVEL_MEMORY_LIMIT and HIRUNVEL_HEAD holds, the job is accepted. With less room it is refused only if it needs
- * more than there is: HIRUNVEL_RECIPE_FULL is reported only if the recipe has fewer numbers than the job has chunks,
- * HIRUNVEL_DIRECTORY_FULL only if fewer entries are unused than the job has new chunks, and HIRUNVEL_POOL_FULL only if
- * fewer pool bytes are left after filled than its new chunks have. All of this is proved, in
- * crates/admission/proofs/theorems/Room.antt.
+ * HIRUNVEL_MEMORY_LIMIT, HIRUNVEL_HEAD, HIRUNVEL_INDEX_LENGTH and HIRUNVEL_INDEX holds, the job is accepted. With less
+ * room it is refused only if it needs more than there is: HIRUNVEL_RECIPE_FULL is reported only if the recipe has fewer
+ * numbers than the job has chunks, HIRUNVEL_DIRECTORY_FULL only if fewer entries are unused than the job has new
+ * chunks, and HIRUNVEL_POOL_FULL only if fewer pool bytes are left after filled than its new chunks have. All of this
+ * is proved, in crates/admission/proofs/theorems/Room.antt.
  */
 
 /*
@@ -136,12 +160,12 @@ uint32_t hirunvel_store_open(uint32_t window, uint32_t head[3]);
 /*
  * Quotes a job: tells what a take of it would come to, and stores nothing. A chunk is repeated if the store holds it or
  * an earlier place of the job has it, and new otherwise. recipe_len is the room that the recipe has. Tests
- * HIRUNVEL_WINDOW, HIRUNVEL_JOB_LENGTH, HIRUNVEL_MEMORY_LIMIT, HIRUNVEL_HEAD; then, for each chunk,
- * HIRUNVEL_RECIPE_FULL, HIRUNVEL_DIRECTORY_FULL, HIRUNVEL_POOL_FULL, the last two as if the new chunks before it were
- * stored.
- * Reads head, pool, directory, job. Writes the first counts[0] numbers of the recipe, one per chunk of the job, in
- * order: the number that the chunk has in the store (the lowest, if it is there twice), or the one that it would get.
- * New chunks would get the numbers from head[1] on. The rest of the recipe is untouched. counts[0] is the recipe's
+ * HIRUNVEL_WINDOW, HIRUNVEL_JOB_LENGTH, HIRUNVEL_MEMORY_LIMIT, HIRUNVEL_HEAD, HIRUNVEL_INDEX_LENGTH, HIRUNVEL_INDEX;
+ * then, for each chunk, HIRUNVEL_RECIPE_FULL, HIRUNVEL_DIRECTORY_FULL, HIRUNVEL_POOL_FULL, the last two as if the new
+ * chunks before it were stored.
+ * Reads head, pool, directory, index, job. Writes the first counts[0] numbers of the recipe, one per chunk of the job,
+ * in order: the number that the chunk has in the store (the lowest, if it is there twice), or the one that it would
+ * get. New chunks would get the numbers from head[1] on. The rest of the recipe is untouched. counts[0] is the recipe's
  * length, the job's number of chunks; counts[1] is the bytes of the new ones, counts[2] the bytes of the repeated ones.
  * saving[0] is job_len - counts[1] - 72 * packets, where packets is counts[0] / 32, rounded up: on the link a recipe
  * number has 2 bytes, and each packet of up to 64 such bytes is charged at 72. The saving can be negative; it is at
@@ -151,20 +175,24 @@ uint32_t hirunvel_store_open(uint32_t window, uint32_t head[3]);
  * After the other grounds the whole recipe is untouched.
  */
 uint32_t hirunvel_store_quote(const uint32_t head[3], const uint8_t *pool, size_t pool_len, const uint32_t *directory,
-                              size_t directory_len, uint32_t *recipe, size_t recipe_len, const uint8_t *job,
-                              size_t job_len, uint64_t counts[3], int64_t saving[1]);
+                              size_t directory_len, const uint32_t *index, size_t index_len, uint32_t *recipe,
+                              size_t recipe_len, const uint8_t *job, size_t job_len, uint64_t counts[3],
+                              int64_t saving[1]);
 
 /*
- * Takes a job: its new chunks go into the pool and the directory. Tests what hirunvel_store_quote tests, in the same
- * order. On the same head, pool, directory, recipe and job the two give the same result and leave the same recipe,
- * counts and saving, refused or not. No quote need come before a take.
+ * Takes a job: its new chunks go into the pool, the directory and the index. Tests what hirunvel_store_quote tests, in
+ * the same order. On the same head, pool, directory, index, recipe and job the two give the same result and leave the
+ * same recipe, counts and saving, refused or not. No quote need come before a take.
  * Reads job. Writes head, the pool from the old filled to the new one, the directory entries of the new chunks, and
- * recipe, counts and saving as a quote does. The rest of pool, directory and recipe is untouched.
- * Refused: head, pool and directory are untouched; recipe, counts and saving are as a quote leaves them.
+ * recipe, counts and saving as a quote does. Enters the new chunks into the index, in the order of their numbers, each
+ * at the front of its chain: its link gets what the chain's head holds, and the head its number. The rest of pool,
+ * directory, index and recipe is untouched.
+ * Refused: head, pool, directory and index are untouched; recipe, counts and saving are as a quote leaves them.
  */
 uint32_t hirunvel_store_take(uint32_t head[3], uint8_t *pool, size_t pool_len, uint32_t *directory,
-                             size_t directory_len, uint32_t *recipe, size_t recipe_len, const uint8_t *job,
-                             size_t job_len, uint64_t counts[3], int64_t saving[1]);
+                             size_t directory_len, uint32_t *index, size_t index_len, uint32_t *recipe,
+                             size_t recipe_len, const uint8_t *job, size_t job_len, uint64_t counts[3],
+                             int64_t saving[1]);
 
 /*
  * Finds a chunk in the pool. Tests HIRUNVEL_WINDOW, HIRUNVEL_MEMORY_LIMIT, HIRUNVEL_HEAD, HIRUNVEL_CHUNK_NUMBER.

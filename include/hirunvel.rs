@@ -21,14 +21,17 @@ pub const DIRECTORY_FULL: u32 = 7;
 pub const POOL_FULL: u32 = 8;
 pub const CHUNK_NUMBER: u32 = 9;
 pub const OUTPUT_SHORT: u32 = 10;
+pub const INDEX_LENGTH: u32 = 11;
+pub const INDEX: u32 = 12;
 
-// The limits behind the grounds 1, 3 and 4, and the bytes of the longest chunk.
+// The limits behind the grounds 1, 3 and 4, the bytes of the longest chunk, and the chains of an index.
 pub const WINDOW_LIMIT: u32 = 64;
 pub const JOB_LIMIT: usize = 16_777_216;
 pub const POOL_LIMIT: usize = 67_108_864;
 pub const DIRECTORY_LIMIT: usize = 131_070;
 pub const RECIPE_LIMIT: usize = 65_535;
 pub const CHUNK_LIMIT: u32 = 16_385;
+pub const CHAINS: usize = 1_024;
 
 #[link(name = "hirunvel", kind = "static")]
 unsafe extern "C" {
@@ -47,6 +50,8 @@ unsafe extern "C" {
         pool_len: usize,
         directory: *const u32,
         directory_len: usize,
+        index: *const u32,
+        index_len: usize,
         recipe: *mut u32,
         recipe_len: usize,
         job: *const u8,
@@ -60,6 +65,8 @@ unsafe extern "C" {
         pool_len: usize,
         directory: *mut u32,
         directory_len: usize,
+        index: *mut u32,
+        index_len: usize,
         recipe: *mut u32,
         recipe_len: usize,
         job: *const u8,
