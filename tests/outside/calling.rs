@@ -1,5 +1,6 @@
 //! Single calls on forged stores: quotes, takes, looks and rebuildings.
 
+use crate::forged_index;
 use crate::forging;
 use crate::jobs;
 use crate::memory::{Lent, Store};
@@ -22,9 +23,11 @@ pub fn run(random: &mut Random, rounds: u64, tally: &mut Tally) -> Result<(), St
     for _ in 0..rounds {
         let fits = random.once_in(2);
         let (store, job) = if fits {
-            forging::store(random)
+            let (store, job) = forging::store(random);
+            (forged_index::accepted(random, &store), job)
         } else {
-            forging::damaged_store(random)
+            let (store, job) = forging::damaged_store(random);
+            (forged_index::any(random, &store), job)
         };
         let job = if random.once_in(20) { Vec::new() } else { job };
         let recipe = forging::recipe(random, job.len());

@@ -1,9 +1,10 @@
 //! The jobs that the scope works by hand, with the answers that it gives, jobs that repeat their own
-//! chunks, and recipes at the edges of a packet.
+//! chunks, recipes at the edges of a packet, and an index.
 
 use crate::call::compare;
 use crate::memory::{Lent, Store};
-use crate::model::{ACCEPTED, DIRECTORY_FULL, POOL_FULL, RECIPE_FULL};
+use crate::model::index::{sum, TABLE};
+use crate::model::{ACCEPTED, CHAINS, DIRECTORY_FULL, POOL_FULL, RECIPE_FULL};
 use crate::pair::Pair;
 use crate::scanner_calls::{Feed, Finish, ScannerOpen};
 use crate::store_calls::{Quote, Take};
@@ -62,6 +63,7 @@ pub fn run(tally: &mut Tally) -> Result<(), String> {
     }
     check_revision(&fresh, tally)?;
     check_refusals(tally)?;
+    check_index(&fresh, tally)?;
     for (numbers, packets) in PACKETS {
         check_packets(numbers, packets, tally)?;
     }
@@ -150,6 +152,25 @@ fn check_refusals(tally: &mut Tally) -> Result<(), String> {
             ));
         }
     }
+    Ok(())
+}
+
+/// Takes a job of four chunks, the first three on chain 239 and the last on chain 103, then a job that
+/// has the middle one of the three. The table and a sum are those of a calculation by hand.
+fn check_index(fresh: &Store, tally: &mut Tally) -> Result<(), String> {
+    if TABLE[..4] != [270_369, 67_634_689, 2_647_435_461, 307_599_695] || sum(&[7]) != 0x19F9_1CB2 {
+        return Err(String::from("The model's table or sum is wrong."));
+    }
+    let job = [4, 0, 0, 8, 6, 3, 10, 3, 2, 7];
+    let store = check_answer(fresh, &job, &[0, 1, 2, 3], (10, 0, -72), tally)?;
+    let end = u32::MAX;
+    let mut index = vec![end; CHAINS + 32];
+    (index[239], index[103]) = (2, 3);
+    index[CHAINS..CHAINS + 4].copy_from_slice(&[end, 0, 1, end]);
+    if store.index[..] != index {
+        return Err(format!("The index should be {index:?}: {store:#?}"));
+    }
+    check_answer(&store, &job[3..6], &[1], (0, 3, -69), tally)?;
     Ok(())
 }
 

@@ -3,8 +3,22 @@
 
 use crate::jobs;
 use crate::memory::{Lent, Store};
-use crate::model::{chunks, longest_chunk};
+use crate::model::index::chain;
+use crate::model::{chunks, longest_chunk, CHAINS};
 use crate::random::Random;
+use std::sync::LazyLock;
+
+/// The bytes at the end of a chunk that its Gear sum depends on.
+const SUMMED: usize = 32;
+
+/// The chunks of two bytes on each chain.
+static PAIRS: LazyLock<Vec<Vec<[u8; 2]>>> = LazyLock::new(|| {
+    let mut pairs = vec![Vec::new(); CHAINS];
+    for pair in (0..=u16::MAX).map(u16::to_be_bytes) {
+        pairs[chain(&pair)].push(pair);
+    }
+    pairs
+});
 
 /// A store whose head fits, and a job some of whose chunks it holds.
 pub fn store(random: &mut Random) -> (Store, Vec<u8>) {
@@ -13,10 +27,11 @@ pub fn store(random: &mut Random) -> (Store, Vec<u8>) {
     let job = jobs::job(random, window, length);
     let mut held: Vec<Vec<u8>> = Vec::new();
     for chunk in chunks::chunks(window, &job) {
-        match random.below(4) {
+        match random.below(5) {
             0 => held.extend([chunk.to_vec(), chunk.to_vec()]),
             1 => held.push(near(random, chunk)),
             2 => held.push(chunk.to_vec()),
+            3 => held.extend([beside(random, chunk), chunk.to_vec(), beside(random, chunk)]),
             _ => {}
         }
     }
@@ -60,6 +75,16 @@ fn near(random: &mut Random, chunk: &[u8]) -> Vec<u8> {
         }
     }
     near
+}
+
+/// A chunk on the same chain: of two bytes or, where the chunk is long, with the same ending.
+fn beside(random: &mut Random, chunk: &[u8]) -> Vec<u8> {
+    if chunk.len() <= SUMMED || random.once_in(2) {
+        return random.pick(&PAIRS[chain(chunk)]).to_vec();
+    }
+    let mut beside = chunk.to_vec();
+    beside[random.below(chunk.len() - SUMMED)] ^= 1 << random.below(8);
+    beside
 }
 
 /// A store that was damaged in one way or two. Some kinds of damage leave a head that fits.

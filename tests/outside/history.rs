@@ -3,7 +3,7 @@
 use crate::call::compare;
 use crate::forging;
 use crate::memory::{Lent, Store};
-use crate::model::{chunks, ACCEPTED, OUTPUT_SHORT, RECIPE_LIMIT};
+use crate::model::{chunks, index, ACCEPTED, INDEX, INDEX_LENGTH, OUTPUT_SHORT, RECIPE_LIMIT};
 use crate::pair::Pair;
 use crate::random::Random;
 use crate::shrink::{shorter, smaller_bytes, without_block, Case, Smaller};
@@ -49,8 +49,8 @@ impl Step {
     }
 }
 
-/// Quotes and takes with a store that starts with a fresh head and with a pool and a directory of any
-/// contents.
+/// Quotes and takes with a store that starts with a fresh head, a pool and a directory of any contents,
+/// and a fresh index.
 #[derive(Clone, Debug)]
 pub struct History {
     pub window: u32,
@@ -104,19 +104,25 @@ impl History {
             head: opened.head,
             pool: self.pool.clone(),
             directory: self.directory.clone(),
+            index: Lent::new(&index::fresh(self.directory.len())),
         };
         let mut appearances = Appearances::new();
         let mut answers = Vec::new();
-        for (index, step) in self.steps.iter().enumerate() {
+        for (place, step) in self.steps.iter().enumerate() {
             let pair = Pair::new(&store, &step.recipe, &step.job);
             let (refusal, after) = pair.compare(tally)?;
+            if [INDEX_LENGTH, INDEX].contains(&refusal) {
+                return Err(format!(
+                    "Step {place}, from 0, ends with refusal {refusal}."
+                ));
+            }
             if refusal == ACCEPTED {
                 let new = check_appearances(&appearances, self.window, &step.job, &after)?;
                 if step.takes {
                     appearances.extend(new);
                 }
                 answers.push(Answer {
-                    step: index,
+                    step: place,
                     taken: step.takes,
                     job: &step.job,
                     recipe: after.written_recipe().to_vec(),
@@ -127,6 +133,7 @@ impl History {
                 store = after.store;
             }
         }
+        check_index(&store)?;
         let accepted = answers.iter().filter(|answer| answer.taken);
         for (index, accepted) in accepted.enumerate() {
             check_rebuilt(&store, accepted, index % 3, tally)?;
@@ -212,6 +219,14 @@ fn check_appearances<'a>(
         "Recipe, new bytes and job length are {answer:?} by the library, \
          {expected:?} by the first appearances."
     ))
+}
+
+/// Checks that the index is as if the chunks that the store holds had been entered one after another.
+fn check_index(store: &Store) -> Result<(), String> {
+    if *store == store.clone().indexed() {
+        return Ok(());
+    }
+    Err(format!("The chunks were not entered in order: {store:#?}"))
 }
 
 /// Rebuilds an accepted job, with some bytes of output to spare, and looks at its first chunk. An

@@ -19,6 +19,7 @@ pub fn run(random: &mut Random, tally: &mut Tally) -> Result<(), String> {
     least_saving(tally)?;
     longest_pools(random, tally)?;
     longest_directories(random, tally)?;
+    longest_chains(tally)?;
     longest_chunks(tally)?;
     largest_sums(tally)
 }
@@ -40,12 +41,7 @@ fn take(
     refusal: u32,
     tally: &mut Tally,
 ) -> Result<Take, String> {
-    let pair = Pair::new(store, &Lent::new(&used(places)), job);
-    match pair.compare(tally) {
-        Ok((found, after)) if found == refusal => Ok(after),
-        Ok((found, _)) => Err(format!("Refusal {found} came and not {refusal}: {pair:#?}")),
-        Err(fault) => Err(shrink(&pair, fault)),
-    }
+    Pair::new(store, &Lent::new(&used(places)), job).expect(refusal, tally)
 }
 
 /// Looks at a chunk.
@@ -151,6 +147,7 @@ fn longest_pools(random: &mut Random, tally: &mut Tally) -> Result<(), String> {
     for (spare, refusal) in [(job.len() - 1, POOL_FULL), (job.len(), ACCEPTED)] {
         roomy.head[2] = (POOL_LIMIT - spare) as u32;
         roomy.directory[2 * last + 1] = (length - spare) as u32;
+        roomy = roomy.indexed();
         take(&roomy, 3, &job, refusal, tally)?;
     }
     Ok(())
@@ -177,6 +174,40 @@ fn longest_directories(random: &mut Random, tally: &mut Tally) -> Result<(), Str
         take(&over, 5, &one_new, MEMORY_LIMIT, tally)?;
         look(&over, 0, MEMORY_LIMIT, tally)?;
         rebuild(&over, &[0], 4, MEMORY_LIMIT, tally)?;
+    }
+    Ok(())
+}
+
+/// Indexes of 66,559 numbers, the longest there are, with 65,535 equal chunks on a chain, the highest
+/// number first and then the lowest first. One of another length, one without the last link and one
+/// whose last link leads back are refused.
+fn longest_chains(tally: &mut Tally) -> Result<(), String> {
+    let entries = DIRECTORY_LIMIT / 2;
+    let chunk = vec![5, 5];
+    let honest = Store::of_chunks(1, &vec![chunk.clone(); entries], &used(9), &[]);
+    let chain = index::chain(&chunk);
+    let mut reversed = honest.clone();
+    reversed.index[chain] = 0;
+    for number in 0..entries {
+        reversed.index[CHAINS + number] = 1 + number as u32;
+    }
+    reversed.index[CHAINS + entries - 1] = index::CHAIN_END;
+    for (store, last) in [(&honest, 0), (&reversed, entries - 1)] {
+        let recipe = take(store, 3, &[5, 5, 5, 5], ACCEPTED, tally)?.recipe;
+        if recipe[..2] != [0, 0] {
+            return Err(format!("The lowest number is 0, and not in {recipe:?}."));
+        }
+        take(store, 3, &[6], DIRECTORY_FULL, tally)?;
+        let mut forged = store.clone();
+        forged.index[CHAINS + last] = store.index[chain];
+        take(&forged, 3, &[6], INDEX, tally)?;
+        forged.index = store.index.first(CHAINS + entries - 1);
+        take(&forged, 3, &[6], INDEX_LENGTH, tally)?;
+        forged.index = Lent::new(&[&store.index[..], &[index::CHAIN_END]].concat());
+        take(&forged, 3, &[6], INDEX_LENGTH, tally)?;
+        forged = store.clone();
+        forged.index[chain] = store.index[CHAINS + store.index[chain] as usize];
+        take(&forged, 3, &[6], INDEX, tally)?;
     }
     Ok(())
 }

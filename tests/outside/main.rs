@@ -3,7 +3,7 @@
 //!
 //! Build, in the repository's root:
 //!     rustc --edition 2021 -O -L native=target/staticlib -o target/outside tests/outside/main.rs
-//! Run:
+//! Run there:
 //!     target/outside [--seed N] [--rounds N] [--small]
 //!
 //! `--rounds` multiplies the work; `--small` does a small part of it and demands no counts. The
@@ -11,19 +11,23 @@
 
 mod call;
 mod calling;
+mod chains;
 mod examples;
 mod feeding;
 mod fields;
+mod forged_index;
 mod forging;
 #[path = "../../include/hirunvel.rs"]
 mod hirunvel;
 mod history;
+mod indexes;
 mod jobs;
 mod library;
 mod limits;
 mod memory;
 mod model;
 mod pair;
+mod printed_table;
 mod promise;
 mod random;
 mod rebuilding;
@@ -82,13 +86,15 @@ fn run(options: &Options, tally: &mut Tally) -> Result<(), String> {
         }
     };
     let mut random = Random::new(options.seed);
+    printed_table::run()?;
     examples::run(tally)?;
     feeding::run(&mut random, amount(1_200_000), tally)?;
     calling::run(&mut random, amount(40_000), tally)?;
     rebuilding::run(&mut random, tally)?;
     room::run(&mut random, tally)?;
+    indexes::run(&mut random, amount(4_000), tally)?;
     repeats::run(&mut random, amount(4_000), tally)?;
-    taking::run(&mut random, amount(400_000), tally)?;
+    taking::run(&mut random, amount(500_000), tally)?;
     promise::run(&mut random, amount(1_500), tally)?;
     fields::run(&mut random, amount(1_000), tally)?;
     if options.small {

@@ -1,5 +1,6 @@
 //! Memory that is lent to a call, and the store that is made of it.
 
+use crate::model::index;
 use std::fmt;
 use std::ops::{Deref, DerefMut};
 
@@ -97,25 +98,28 @@ fn print_runs<T: PartialEq + fmt::Display + fmt::UpperHex>(
     Ok(())
 }
 
-/// A store: head (window, chunks, filled), pool and directory.
+/// A store: head (window, chunks, filled), pool, directory and index.
 #[derive(Clone, PartialEq, Eq, Debug)]
 pub struct Store {
     pub head: Lent<u32>,
     pub pool: Lent<u8>,
     pub directory: Lent<u32>,
+    pub index: Lent<u32>,
 }
 
 impl Store {
-    /// A store of these three.
+    /// A store of these three with a fresh index.
     pub fn new(head: [u32; 3], pool: &[u8], directory: &[u32]) -> Self {
         Store {
             head: Lent::new(&head),
             pool: Lent::new(pool),
             directory: Lent::new(directory),
+            index: Lent::new(&index::fresh(directory.len())),
         }
     }
 
-    /// A store that holds these chunks one after another, with spare memory behind them.
+    /// A store that holds these chunks one after another, with spare memory behind them and the index
+    /// that takes of them leave.
     pub fn of_chunks(
         window: u32,
         chunks: &[Vec<u8>],
@@ -131,7 +135,14 @@ impl Store {
         let head = [window, chunks.len() as u32, pool.len() as u32];
         pool.extend_from_slice(spare_pool);
         directory.extend_from_slice(spare_directory);
-        Store::new(head, &pool, &directory)
+        Store::new(head, &pool, &directory).indexed()
+    }
+
+    /// The store with the index that takes of its chunks leave. The head must fit pool and directory.
+    pub fn indexed(mut self) -> Self {
+        self.index = Lent::new(&index::fresh(self.directory.len()));
+        (0..self.chunks() as usize).for_each(|number| index::enter(&mut self, number));
+        self
     }
 
     /// The number of chunks that the head tells.

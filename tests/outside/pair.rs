@@ -2,7 +2,7 @@
 
 use crate::call::{compare, Call};
 use crate::memory::{Lent, Store};
-use crate::shrink::{Case, Smaller};
+use crate::shrink::{shrink, Case, Smaller};
 use crate::store_calls::{Quote, Take};
 use crate::tally::Tally;
 
@@ -31,6 +31,15 @@ impl Pair {
             "The quote ends with refusal {quoted} and {quote:#?}\n\
              The take ends with refusal {taken} and {take:#?}"
         ))
+    }
+
+    /// Compares and checks that both end with this refusal. Gives the take as it was left.
+    pub fn expect(&self, refusal: u32, tally: &mut Tally) -> Result<Take, String> {
+        match self.compare(tally) {
+            Ok((found, after)) if found == refusal => Ok(after),
+            Ok((found, _)) => Err(format!("Refusal {found} came and not {refusal}: {self:#?}")),
+            Err(fault) => Err(shrink(self, fault)),
+        }
     }
 }
 

@@ -47,7 +47,8 @@ fn fill_after(
 }
 
 /// Different chunks that a cut ends, some of them alike: of one length, and with the same bytes in
-/// another order, or the same but for one.
+/// another order, or the same but for one; or with the same ending, which are on one chain where it has
+/// 32 bytes.
 fn palette(random: &mut Random, window: u32) -> Vec<Vec<u8>> {
     let mut palette = vec![chunk(random, window)];
     for _ in 0..random.pick(&[0, 1, 5, 20]) {
@@ -55,9 +56,10 @@ fn palette(random: &mut Random, window: u32) -> Vec<Vec<u8>> {
         let mut next = palette[like].clone();
         let tail = next.len() - window as usize;
         let (a, b) = (random.below(window as usize), random.below(window as usize));
-        match random.below(3) {
+        match random.below(4) {
             0 => next = chunk(random, window),
             1 => next.swap(tail + a, tail + b),
+            2 if next[0] > 0 => next.insert(0, random.below(next[0] as usize) as u8),
             _ => next[tail + a] /= 2,
         }
         if !palette.contains(&next) {

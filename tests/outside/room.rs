@@ -37,7 +37,7 @@ impl Room {
     }
 
     /// What is enough for any job of this length.
-    fn enough(window: u32, length: usize) -> Self {
+    pub fn enough(window: u32, length: usize) -> Self {
         let chunks = length / (window as usize + 1) + 1;
         Room {
             places: chunks,
@@ -91,12 +91,15 @@ impl Room {
     pub fn lend(&self, random: &mut Random, store: &Store, job: &[u8]) -> Pair {
         let pool = &store.pool[..store.head[2] as usize];
         let directory = &store.directory[..2 * store.chunks() as usize];
+        let index = &store.index[..CHAINS + store.chunks() as usize];
         let spare_pool = random.bytes(self.bytes);
         let spare_directory = random.numbers(2 * self.entries);
+        let spare_index = random.numbers(self.entries);
         let roomy = Store {
             head: store.head.clone(),
             pool: Lent::new(&[pool, &spare_pool].concat()),
             directory: Lent::new(&[directory, &spare_directory].concat()),
+            index: Lent::new(&[index, &spare_index].concat()),
         };
         Pair::new(&roomy, &forging::recipe(random, self.places), job)
     }

@@ -1,6 +1,9 @@
 //! Checking a case and, where it fails, finding a smaller case that fails too.
 
 use crate::memory::{Lent, Store};
+use crate::model::index::CHAIN_END;
+use crate::model::store::head_fits;
+use crate::model::CHAINS;
 use crate::tally::Tally;
 use std::fmt::Debug;
 use std::time::{Duration, Instant};
@@ -102,7 +105,7 @@ pub fn shorter<T: Copy + From<u8>>(memory: &Lent<T>) -> impl Iterator<Item = Len
     .map(|shorter| memory.first(shorter))
 }
 
-/// Stores with one chunk less, less pool or less directory.
+/// Stores with one chunk less, less pool, less directory or a simpler index.
 pub fn smaller_stores(store: &Store) -> impl Iterator<Item = Store> + '_ {
     let entries = (store.chunks() as usize).min(store.directory.len() / 2);
     let fewer = (0..entries).map(|number| without_chunk(store, number));
@@ -111,13 +114,48 @@ pub fn smaller_stores(store: &Store) -> impl Iterator<Item = Store> + '_ {
         ..store.clone()
     });
     let directories = shorter(&store.directory).map(|directory| Store {
+        index: index_for(store, directory.len()),
         directory,
         ..store.clone()
     });
-    fewer.chain(pools).chain(directories)
+    fewer
+        .chain(pools)
+        .chain(directories)
+        .chain(simpler_indexes(store))
 }
 
-/// The store without a chunk: its entry and its bytes are left out and the later entries moved up.
+/// The index without the links of the entries that a directory of this length has no longer.
+fn index_for(store: &Store, directory: usize) -> Lent<u32> {
+    let links = store.directory.len() / 2 - directory / 2;
+    store.index.first(store.index.len().saturating_sub(links))
+}
+
+/// Stores whose index is the one that takes leave, is shorter, or has one more number as takes leave
+/// it.
+fn simpler_indexes(store: &Store) -> impl Iterator<Item = Store> + '_ {
+    let as_takes_leave_it = head_fits(store).then(|| store.clone().indexed());
+    let whole = as_takes_leave_it.filter(|other| other != store);
+    let numbers = whole
+        .as_ref()
+        .map_or(Vec::new(), |other| other.index.to_vec());
+    let different = move |&(place, number): &(usize, u32)| {
+        store.index.get(place).is_some_and(|&held| held != number)
+    };
+    let one = numbers.into_iter().enumerate().filter(different);
+    let one = one.map(|(place, number)| {
+        let mut simpler = store.clone();
+        simpler.index[place] = number;
+        simpler
+    });
+    let shorter = shorter(&store.index).map(|index| Store {
+        index,
+        ..store.clone()
+    });
+    whole.into_iter().chain(shorter).chain(one)
+}
+
+/// The store without a chunk: its entry and its bytes are left out, the later entries moved up, and its
+/// chain goes on with the chunk after it.
 fn without_chunk(store: &Store, number: usize) -> Store {
     let mut directory = store.directory.to_vec();
     let mut pool = store.pool.to_vec();
@@ -137,5 +175,26 @@ fn without_chunk(store: &Store, number: usize) -> Store {
         store.head[1] - 1,
         store.head[2].wrapping_sub(length),
     ];
-    Store::new(head, &pool, &directory)
+    Store {
+        index: index_without(store, number),
+        ..Store::new(head, &pool, &directory)
+    }
+}
+
+/// The index without a chunk. Later chunks have a number less.
+fn index_without(store: &Store, number: usize) -> Lent<u32> {
+    let mut index = store.index.to_vec();
+    if index.len() <= CHAINS + number {
+        return store.index.clone();
+    }
+    let after = index.remove(CHAINS + number);
+    for held in &mut index {
+        if *held == number as u32 {
+            *held = after;
+        }
+        if *held > number as u32 && *held != CHAIN_END {
+            *held -= 1;
+        }
+    }
+    Lent::new(&index)
 }

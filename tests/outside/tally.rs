@@ -1,5 +1,7 @@
 //! What was done: how often each operation was called and how often each refusal came.
 
+use crate::forged_index;
+
 /// An operation of the library.
 #[derive(Clone, Copy, PartialEq, Eq, Debug)]
 pub enum Operation {
@@ -19,8 +21,8 @@ const OPERATIONS: [(Operation, &str, &[u32]); 8] = [
     (Operation::Feed, "feeds", &[1, 2]),
     (Operation::Finish, "finishes", &[1, 2]),
     (Operation::StoreOpen, "store openings", &[1]),
-    (Operation::Quote, "quotes", &[1, 3, 4, 5, 6, 7, 8]),
-    (Operation::Take, "takes", &[1, 3, 4, 5, 6, 7, 8]),
+    (Operation::Quote, "quotes", &[1, 3, 4, 5, 11, 12, 6, 7, 8]),
+    (Operation::Take, "takes", &[1, 3, 4, 5, 11, 12, 6, 7, 8]),
     (Operation::Look, "looks", &[1, 4, 5, 9]),
     (Operation::Rebuild, "rebuildings", &[1, 4, 5, 9, 10]),
 ];
@@ -32,6 +34,10 @@ const REVISIONS: [&str; 2] = ["quoted", "taken"];
 /// accept.
 const LEAST_OUTCOMES: u64 = 20;
 
+/// How many indexes of each kind must be lent in a full run, and how many with which the store holds a
+/// chunk of the job twice, the higher number first on its chain.
+const LEAST_INDEXES: u64 = 1_000;
+
 /// How often demand 3 must be checked in a full run.
 const LEAST_PLACES: u64 = 100_000;
 
@@ -42,9 +48,11 @@ const LEAST_NEAR: u64 = 50;
 /// those that were taken.
 #[derive(Default)]
 pub struct Tally {
-    outcomes: [[u64; 11]; 8],
+    outcomes: [[u64; 13]; 8],
     promises: [Promises; 2],
     fields: [[Fields; 5]; 2],
+    indexes: [u64; forged_index::KINDS],
+    higher_first: u64,
 }
 
 /// Counts of the checks of demand 3.
@@ -92,6 +100,16 @@ impl Tally {
         fields.met += u64::from(charge == ceiling);
     }
 
+    /// Counts an index of this kind, lent to a quote and a take.
+    pub fn count_index(&mut self, kind: usize) {
+        self.indexes[kind] += 1;
+    }
+
+    /// Counts an index with which the store holds a chunk of the job twice, the higher number first.
+    pub fn count_higher_first(&mut self) {
+        self.higher_first += 1;
+    }
+
     /// The number of calls of an operation.
     pub fn calls(&self, operation: Operation) -> u64 {
         self.outcomes[operation as usize].iter().sum()
@@ -111,6 +129,13 @@ impl Tally {
             }
             println!();
         }
+        for (count, (kind, refusal, _)) in self.indexes.iter().zip(&forged_index::ALL) {
+            println!("indexes {kind}: {count}, refusal {refusal}");
+        }
+        println!(
+            "accepted indexes with the higher of two equal chunks first: {}",
+            self.higher_first
+        );
         for (taken, name) in REVISIONS.iter().enumerate() {
             let Promises { places, nearest } = self.promises[taken];
             println!("revisions {name}: {places} checks of demand 3, largest charge {nearest:.1} % of its ceiling");
@@ -136,6 +161,7 @@ impl Tally {
             }
         }
         self.revision_shortfall()?;
+        self.index_shortfall()?;
         for (operation, name, grounds) in OPERATIONS {
             for &ground in [0].iter().chain(grounds) {
                 let count = self.outcomes[operation as usize][ground as usize];
@@ -144,6 +170,22 @@ impl Tally {
                         "refusal {ground} came only {count} times in {name}"
                     ));
                 }
+            }
+        }
+        Ok(())
+    }
+
+    /// Tells which count of the indexes is too small, if one is.
+    fn index_shortfall(&self) -> Result<(), String> {
+        let kinds = forged_index::ALL.iter().map(|kind| kind.0);
+        let kinds = self.indexes.iter().zip(kinds);
+        let higher_first = (
+            &self.higher_first,
+            "with the higher of two equal chunks first",
+        );
+        for (count, kind) in kinds.chain([higher_first]) {
+            if *count < LEAST_INDEXES {
+                return Err(format!("only {count} indexes {kind}"));
             }
         }
         Ok(())

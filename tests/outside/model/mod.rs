@@ -3,6 +3,7 @@
 //! gives the number of the refusal.
 
 pub mod chunks;
+pub mod index;
 pub mod scanner;
 pub mod store;
 
@@ -28,6 +29,10 @@ pub const POOL_FULL: u32 = 8;
 pub const CHUNK_NUMBER: u32 = 9;
 /// The output is shorter than the rebuilt job.
 pub const OUTPUT_SHORT: u32 = 10;
+/// The index has another length than its chains and the directory's entries.
+pub const INDEX_LENGTH: u32 = 11;
+/// The index's chains do not meet every chunk just once under its own sum, and nothing else.
+pub const INDEX: u32 = 12;
 
 /// The largest window.
 pub const WINDOW_LIMIT: u32 = 64;
@@ -39,6 +44,9 @@ pub const POOL_LIMIT: usize = 67_108_864;
 pub const DIRECTORY_LIMIT: usize = 131_070;
 /// The most numbers of a recipe.
 pub const RECIPE_LIMIT: usize = 65_535;
+
+/// The chains of an index.
+pub const CHAINS: usize = 1_024;
 
 /// The bytes of a recipe number on the link.
 pub const NUMBER_BYTES: usize = 2;

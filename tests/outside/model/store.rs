@@ -140,7 +140,7 @@ fn packets(recipe: &[u32]) -> u64 {
     recipe.chunks(PACKET_BYTES / NUMBER_BYTES).count() as u64
 }
 
-/// Adds a chunk with the next number. There must be room for it.
+/// Adds a chunk with the next number and enters it in the index. There must be room for it.
 fn add(store: &mut Store, chunk: &[u8]) {
     let (number, filled) = (store.chunks() as usize, store.head[2] as usize);
     store.pool[filled..filled + chunk.len()].copy_from_slice(chunk);
@@ -148,6 +148,7 @@ fn add(store: &mut Store, chunk: &[u8]) {
     store.directory[2 * number + 1] = chunk.len() as u32;
     store.head[1] += 1;
     store.head[2] += chunk.len() as u32;
+    index::enter(store, number);
 }
 
 /// Finds a chunk's stretch of the pool.
@@ -193,6 +194,10 @@ fn job_ground(store: &Store, recipe: &[u32], job: &[u8]) -> u32 {
         MEMORY_LIMIT
     } else if !head_fits(store) {
         HEAD
+    } else if store.index.len() != index::length(store.directory.len()) {
+        INDEX_LENGTH
+    } else if !index::meets_each_once(store) {
+        INDEX
     } else {
         ACCEPTED
     }
@@ -223,7 +228,7 @@ fn over_limit(store: &Store, recipe: &[u32]) -> bool {
 }
 
 /// Tells whether the head fits pool and directory.
-fn head_fits(store: &Store) -> bool {
+pub fn head_fits(store: &Store) -> bool {
     let chunks = store.chunks() as usize;
     if chunks > store.directory.len() / 2 {
         return false;
