@@ -89,14 +89,15 @@ fn run(options: &Options, tally: &mut Tally) -> Result<(), String> {
     printed_table::run()?;
     examples::run(tally)?;
     feeding::run(&mut random, amount(1_200_000), tally)?;
-    calling::run(&mut random, amount(40_000), tally)?;
     rebuilding::run(&mut random, tally)?;
     room::run(&mut random, tally)?;
-    indexes::run(&mut random, amount(4_000), tally)?;
     repeats::run(&mut random, amount(4_000), tally)?;
-    taking::run(&mut random, amount(500_000), tally)?;
+    taking::run(&mut random, amount(200_000), tally)?;
     promise::run(&mut random, amount(1_500), tally)?;
     fields::run(&mut random, amount(1_000), tally)?;
+    tally.no_index_refused()?;
+    calling::run(&mut random, amount(40_000), tally)?;
+    indexes::run(&mut random, amount(4_000), tally)?;
     if options.small {
         return Ok(());
     }

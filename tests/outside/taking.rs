@@ -8,9 +8,10 @@ use crate::random::Random;
 use crate::shrink::hold;
 use crate::tally::{Operation, Tally};
 
-/// Checks histories until this many takes are done.
+/// Checks histories until this many takes more are done.
 pub fn run(random: &mut Random, takes: u64, tally: &mut Tally) -> Result<(), String> {
-    while tally.calls(Operation::Take) < takes {
+    let before = tally.calls(Operation::Take);
+    while tally.calls(Operation::Take) < before + takes {
         hold(&history(random), tally)?;
     }
     Ok(())

@@ -1,6 +1,7 @@
 //! What was done: how often each operation was called and how often each refusal came.
 
 use crate::forged_index;
+use crate::model::{INDEX, INDEX_LENGTH};
 
 /// An operation of the library.
 #[derive(Clone, Copy, PartialEq, Eq, Debug)]
@@ -113,6 +114,21 @@ impl Tally {
     /// The number of calls of an operation.
     pub fn calls(&self, operation: Operation) -> u64 {
         self.outcomes[operation as usize].iter().sum()
+    }
+
+    /// Tells that an index was refused, if one was: none may be that takes have left.
+    pub fn no_index_refused(&self) -> Result<(), String> {
+        for (operation, name, _) in OPERATIONS {
+            for ground in [INDEX_LENGTH, INDEX] {
+                let count = self.outcomes[operation as usize][ground as usize];
+                if count > 0 {
+                    return Err(format!(
+                        "refusal {ground} came {count} times in {name} with indexes that takes have left"
+                    ));
+                }
+            }
+        }
+        Ok(())
     }
 
     /// Prints the counts.
