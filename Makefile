@@ -13,8 +13,9 @@ help:
 	@echo "                     (about 2 minutes the first time, to prove and build the program; then at once)"
 	@echo "make example         a label and its revision, quoted, taken and rebuilt from C"
 	@echo "                     (about 2 minutes the first time, to prove and build the library; then at once)"
-	@echo "make bench           the library measured beside plain Rust"
-	@echo "                     (about 4 minutes, and 2 more where the library is not built yet)"
+	@echo "make bench           the library measured beside plain Rust, a HashMap and, where its archive is there,"
+	@echo "                     the version before (bench/before.rs says how to make that)"
+	@echo "                     (about 5 minutes, and 2 more where the library is not built yet)"
 
 test:
 	@tests/run
@@ -32,12 +33,16 @@ example: target/staticlib/libhirunvel.a
 	@cc -std=c99 -Iinclude -o target/example/label_revision examples/label_revision.c -Ltarget/staticlib -lhirunvel
 	@target/example/label_revision docs/example/label.zpl docs/example/label-2.zpl
 
-# Measures the library beside plain implementations of the same operations. Without position-independent code the calls
-# of the archive are direct, as those of the plain ones are.
+# Measures the library beside plain implementations of the same operations, and beside the version before if its archive
+# is in `before`. Without position-independent code the calls of the archive are direct, as those of the plain ones are.
+before := target/bench/before
+with_before = $(if $(wildcard $(before)/libhirunvel_before.a),--cfg before -L native=$(before))
+
 bench: target/staticlib/libhirunvel.a target/staticlib/libchunk_count.a
 	@mkdir -p target/bench
 	@python3 bench/inputs.py target/bench
-	@rustc --edition 2021 -O -C relocation-model=static -L native=target/staticlib -o target/bench/bench bench/main.rs
+	@rustc --edition 2021 -O --check-cfg 'cfg(before)' -C relocation-model=static -L native=target/staticlib \
+	    $(with_before) -o target/bench/bench bench/main.rs
 	@target/bench/bench target/bench
 
 # A program, and a library for C: proved and built again if anything in the crates is newer.

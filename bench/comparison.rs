@@ -1,17 +1,22 @@
 //! The comparison of quotes, takes, looks and rebuildings.
 
 use crate::agreement::{agree, Sequence};
+#[cfg(before)]
+use crate::before;
 use crate::interface::{
-    Answer, Head, ACCEPTED, DIRECTORY_LIMIT, JOB_LIMIT, POOL_LIMIT, RECIPE_LIMIT, WINDOW_LIMIT,
+    Answer, Head, ACCEPTED, CHAINS, DIRECTORY_LIMIT, JOB_LIMIT, POOL_LIMIT, RECIPE_LIMIT,
+    WINDOW_LIMIT,
 };
+use crate::plain::index::{chain_of, END};
+use crate::plain::store::head_refused;
 use crate::store::Store;
 use crate::{library, plain};
 
 /// What a quote or a take tells, and what it leaves: the refusal, the answer, the store and the recipe.
 type Left = (u32, Answer, Store, Vec<u32>);
 
-type Quote = fn(&Head, &[u8], &[u32], &mut [u32], &[u8], &mut Answer) -> u32;
-type Take = fn(&mut Head, &mut [u8], &mut [u32], &mut [u32], &[u8], &mut Answer) -> u32;
+type Quote = fn(&Head, &[u8], &[u32], &[u32], &mut [u32], &[u8], &mut Answer) -> u32;
+type Take = fn(&mut Head, &mut [u8], &mut [u32], &mut [u32], &mut [u32], &[u8], &mut Answer) -> u32;
 type Look = fn(&Head, &[u8], &[u32], u32, &mut [u64; 2]) -> u32;
 type Rebuild = fn(&Head, &[u8], &[u32], &[u32], &mut [u8], &mut u64) -> u32;
 
@@ -45,6 +50,8 @@ pub fn compare_small_stores() {
         for _ in 0..JOBS {
             let job = sequence.job(40);
             compare_admissions(&mut store, &mut recipe, &job);
+            store = any_index(&mut sequence, store);
+            hold_twice(&mut sequence, &mut store);
         }
         let used = sequence.below(recipe.len() as u64 + 1) as usize;
         compare_looks(&store, sequence.below(8) as u32);
@@ -68,15 +75,54 @@ fn any_store(sequence: &mut Sequence) -> Store {
         head.chunks = sequence.below(4) as u32;
         head.filled = sequence.below(8) as u32;
     }
-    Store {
-        head,
-        pool: sequence.job(80),
-        directory: any_numbers(sequence, 24),
+    let pool = sequence.job(80);
+    let store = Store::new(head, pool, any_numbers(sequence, 24));
+    any_index(sequence, store)
+}
+
+/// A store that in some cases has another index: with its chunks in another order, with any number in it, with two heads
+/// swapped, or of another length.
+fn any_index(sequence: &mut Sequence, mut store: Store) -> Store {
+    let fits = !head_refused(&store.head, &store.pool, &store.directory);
+    let chain = sequence.below(CHAINS as u64) as usize;
+    let place = sequence.one_of(&[chain, CHAINS, CHAINS + 1, CHAINS + 2]);
+    match sequence.below(16) {
+        0 | 1 if fits => return store.reversed(),
+        2 | 3 if place < store.index.len() => {
+            store.index[place] = sequence.one_of(&[0, 1, 2, 3, store.head.chunks, END - 1, END]);
+        }
+        4 if fits && store.head.chunks > 0 => {
+            let first = chain_of(store.chunk(0));
+            store.index.swap(chain, first);
+        }
+        5 => store.index.truncate(CHAINS),
+        6 => store.index.push(END),
+        _ => {}
+    }
+    store
+}
+
+/// Adds the first chunk of a store once more in some cases, if there is room.
+fn hold_twice(sequence: &mut Sequence, store: &mut Store) {
+    let Store { head, pool, .. } = &*store;
+    let fits = !head_refused(head, pool, &store.directory);
+    if !fits || head.chunks == 0 || sequence.below(8) > 0 {
+        return;
+    }
+    let (chunk, entry) = (store.chunk(0).to_vec(), 2 * head.chunks as usize);
+    let start = head.filled as usize;
+    let end = start + chunk.len();
+    if entry + 2 <= store.directory.len() && end <= store.pool.len() {
+        store.pool[start..end].copy_from_slice(&chunk);
+        store.directory[entry..entry + 2].copy_from_slice(&[start as u32, chunk.len() as u32]);
+        store.head.chunks += 1;
+        store.head.filled = end as u32;
+        *store = store.clone().entering(0..store.head.chunks);
     }
 }
 
-/// Compares what the quotes and the takes of a job tell and leave, and keeps what the takes leave.
-pub fn compare_admissions(store: &mut Store, recipe: &mut Vec<u32>, job: &[u8]) {
+/// Compares what the quotes and the takes of a job tell and leave, and keeps what the takes leave. Gives what they tell.
+pub fn compare_admissions(store: &mut Store, recipe: &mut Vec<u32>, job: &[u8]) -> Answer {
     let Head { window, chunks, .. } = store.head;
     let what = |which| format!("{which} at window {window}, after {chunks} chunks");
     let quotes = QUOTES.map(|(name, quote)| (name, run_quote(quote, store, recipe, job)));
@@ -89,12 +135,37 @@ pub fn compare_admissions(store: &mut Store, recipe: &mut Vec<u32>, job: &[u8]) 
         let unchanged = [("the store", &*store), ("what it leaves", &taken.2)];
         agree(|| what("refused take"), unchanged);
     }
+    #[cfg(before)]
+    compare_before(store, recipe, job, &taken);
     (*store, *recipe) = (taken.2, taken.3);
     let told = [
         ("quote", (refusal, answer, &numbers)),
         ("take", (taken.0, taken.1, &*recipe)),
     ];
     agree(|| what("pair"), told);
+    answer
+}
+
+/// Compares what the version before tells and leaves with a take, but for the index, which it does not know.
+#[cfg(before)]
+fn compare_before(store: &Store, recipe: &[u32], job: &[u8], taken: &Left) {
+    use crate::interface::{INDEX, INDEX_LENGTH};
+    if [INDEX_LENGTH, INDEX].contains(&taken.0) {
+        return;
+    }
+    let what = || format!("{} bytes after {} chunks", job.len(), store.head.chunks);
+    let mut before = run_take(before::take, store, recipe, job);
+    before.2.index.clone_from(&taken.2.index);
+    agree(
+        what,
+        [("take", taken), ("take of the version before", &before)],
+    );
+    let (refusal, answer, _, numbers) = run_quote(before::quote, store, recipe, job);
+    let quoted = [
+        ("take", (taken.0, taken.1, &taken.3)),
+        ("quote of the version before", (refusal, answer, &numbers)),
+    ];
+    agree(what, quoted);
 }
 
 /// An answer that no call leaves.
@@ -106,24 +177,30 @@ const UNTOLD: Answer = Answer {
 /// What a quote tells and leaves.
 fn run_quote(quote: Quote, store: &Store, recipe: &[u32], job: &[u8]) -> Left {
     let (store, mut recipe, mut answer) = (store.clone(), recipe.to_vec(), UNTOLD);
-    let Store {
-        head,
-        pool,
-        directory,
-    } = &store;
-    let refusal = quote(head, pool, directory, &mut recipe, job, &mut answer);
+    let refusal = quote(
+        &store.head,
+        &store.pool,
+        &store.directory,
+        &store.index,
+        &mut recipe,
+        job,
+        &mut answer,
+    );
     (refusal, answer, store, recipe)
 }
 
 /// What a take tells and leaves.
 fn run_take(take: Take, store: &Store, recipe: &[u32], job: &[u8]) -> Left {
     let (mut store, mut recipe, mut answer) = (store.clone(), recipe.to_vec(), UNTOLD);
-    let Store {
-        head,
-        pool,
-        directory,
-    } = &mut store;
-    let refusal = take(head, pool, directory, &mut recipe, job, &mut answer);
+    let refusal = take(
+        &mut store.head,
+        &mut store.pool,
+        &mut store.directory,
+        &mut store.index,
+        &mut recipe,
+        job,
+        &mut answer,
+    );
     (refusal, answer, store, recipe)
 }
 
@@ -152,6 +229,7 @@ pub fn compare_rebuildings(store: &Store, recipe: &[u32], length: usize) -> Vec<
         head,
         pool,
         directory,
+        ..
     } = store;
     let results = REBUILDINGS.map(|(name, rebuild)| {
         let mut output = vec![0xaa; length];
@@ -180,11 +258,8 @@ fn compare_at_limits() {
         [0, 0, 0, 1],
     ] {
         let [pool, directory, recipe, job] = [0, 1, 2, 3].map(|k| AT[k] + past[k]);
-        let mut store = Store {
-            head: Head::fresh(WINDOW_LIMIT),
-            pool: vec![0; pool],
-            directory: vec![0; directory],
-        };
+        let head = Head::fresh(WINDOW_LIMIT);
+        let mut store = Store::new(head, vec![0; pool], vec![0; directory]);
         let mut recipe = vec![0; recipe];
         compare_admissions(&mut store, &mut recipe, &vec![0; job]);
         compare_looks(&store, 0);

@@ -194,6 +194,7 @@ fn measure_feeds(
                 feed_job(chunker::feed_2, case)
             }),
         ],
+        undo: |_| (),
         unit: "MB/s",
         figure: |case, nanoseconds| megabytes_per_second(case.job.len(), nanoseconds),
     };
@@ -217,6 +218,7 @@ fn measure_counts(report: &mut Report, time: Duration, axes: &Axes, cases: &mut 
             ("SSE2", |case| count_chunks(sse2::chunk_count, case)),
             ("Gear", |case| count_chunks(gear::chunk_count, case)),
         ],
+        undo: |_| (),
         unit: "MB/s",
         figure: |case, nanoseconds| megabytes_per_second(case.job.len(), nanoseconds),
     };

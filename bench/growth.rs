@@ -31,18 +31,14 @@ pub fn prepare(inputs: &Inputs) -> Measure<'_> {
         .iter()
         .map(|chunks| full.beginning(*chunks, 0))
         .collect();
-    let admissions = admissions(&full, inputs.label());
-    let rebuildings: Vec<_> = admissions
-        .iter()
-        .cloned()
-        .map(rebuilding::Case::new)
-        .collect();
+    let mut admissions = admissions(&full, inputs.label());
+    let rebuildings: Vec<_> = admissions.iter().map(rebuilding::Case::new).collect();
     for store in &stores {
         looked_at(store.head).for_each(|number| compare_looks(store, number));
     }
-    let all_new = all_new(inputs.random());
-    admissions.iter().for_each(admission::compare);
-    all_new.iter().for_each(admission::compare);
+    let mut all_new = all_new(inputs.random());
+    admissions.iter_mut().for_each(admission::compare);
+    all_new.iter_mut().for_each(admission::compare);
     rebuildings.iter().for_each(rebuilding::compare);
     Box::new(move |time| {
         let mut report = Report::default();
@@ -95,6 +91,7 @@ fn look_often(look: impl Fn(&Head, &[u8], &[u32], u32, &mut [u64; 2]) -> u32, st
         head,
         pool,
         directory,
+        ..
     } = store;
     for number in looked_at(*head) {
         let mut stretch = [0, 0];
@@ -135,6 +132,7 @@ fn measure_rest(
     let contest = Contest {
         title: "Rebuilding as work grows, w = 64",
         contestants: &rebuilding::CONTESTANTS,
+        undo: |_| (),
         unit: "nanoseconds a byte",
         figure: |case, nanoseconds| nanoseconds / case.bytes() as f64,
     };
@@ -143,6 +141,7 @@ fn measure_rest(
     let contest = Contest {
         title: "Looking",
         contestants: &LOOKING,
+        undo: |_| (),
         unit: "nanoseconds a look",
         figure: |_, nanoseconds| nanoseconds / f64::from(LOOKS),
     };

@@ -1,9 +1,9 @@
 //! What the library and the plain implementations share: the numbers of `include/hirunvel.h`, and its arrays as structs.
 
 pub use crate::hirunvel::{
-    ACCEPTED, CHUNK_NUMBER, DIRECTORY_FULL, DIRECTORY_LIMIT, HEAD, JOB_LENGTH, JOB_LIMIT,
-    MEMORY_LIMIT, OUTPUT_SHORT, POOL_FULL, POOL_LIMIT, RECIPE_FULL, RECIPE_LIMIT, UNSOUND, WINDOW,
-    WINDOW_LIMIT,
+    ACCEPTED, CHAINS, CHUNK_NUMBER, DIRECTORY_FULL, DIRECTORY_LIMIT, HEAD, INDEX, INDEX_LENGTH,
+    JOB_LENGTH, JOB_LIMIT, MEMORY_LIMIT, OUTPUT_SHORT, POOL_FULL, POOL_LIMIT, RECIPE_FULL,
+    RECIPE_LIMIT, UNSOUND, WINDOW, WINDOW_LIMIT,
 };
 
 /// A scanner: the window, the bytes since the last cut, the place of the largest of them, counted from 1 and first on

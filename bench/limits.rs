@@ -28,6 +28,7 @@ pub fn prepare(inputs: &Inputs) -> Measure<'_> {
     let contest = Contest {
         title: "Feeding random bytes at w = 64",
         contestants: &CONTESTANTS,
+        undo: |_| (),
         unit: "MB/s",
         figure: |case, nanoseconds| megabytes_per_second(case.bytes.len(), nanoseconds),
     };

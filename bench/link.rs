@@ -1,7 +1,7 @@
 //! What jobs of labels cost on the link by window: their new bytes and the packets of their recipes.
 
 use crate::interface::{Answer, Head, ACCEPTED, DIRECTORY_LIMIT, RECIPE_LIMIT};
-use crate::store::revision;
+use crate::store::{revision, Store};
 use crate::table::{number, Axes, Report};
 use crate::{library, Inputs, Measure};
 
@@ -63,16 +63,16 @@ fn report(labels: &[&[u8]]) -> Report {
 
 /// What a job costs as the first of a store, and what its revision costs after it.
 fn job_costs(window: u32, job: &[u8]) -> (usize, usize) {
-    let mut head = Head::fresh(window);
-    let mut pool = vec![0; 2 * job.len()];
-    let mut directory = vec![0; DIRECTORY_LIMIT];
+    let pool = vec![0; 2 * job.len()];
+    let mut store = Store::new(Head::fresh(window), pool, vec![0; DIRECTORY_LIMIT]);
     let mut recipe = vec![0; RECIPE_LIMIT];
     let mut cost = |job: &[u8]| {
         let mut answer = Answer::default();
         let refusal = library::take(
-            &mut head,
-            &mut pool,
-            &mut directory,
+            &mut store.head,
+            &mut store.pool,
+            &mut store.directory,
+            &mut store.index,
             &mut recipe,
             job,
             &mut answer,

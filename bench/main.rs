@@ -2,6 +2,9 @@
 
 mod admission;
 mod agreement;
+#[cfg(before)]
+mod before;
+mod chains;
 mod comparison;
 mod feeding;
 mod growth;
@@ -53,11 +56,12 @@ type Measure<'a> = Box<dyn FnOnce(Duration) -> Report + 'a>;
 /// A part of the run: its name, what prepares it and compares its contestants' results, and the seconds to measure.
 type Part = (&'static str, fn(&Inputs) -> Measure<'_>, u64);
 
-const PARTS: [Part; 6] = [
+const PARTS: [Part; 7] = [
     ("feeding", feeding::prepare, 45),
     ("limits", limits::prepare, 4),
-    ("admission", admission::prepare, 40),
+    ("admission", admission::prepare, 60),
     ("rebuilding", rebuilding::prepare, 8),
+    ("chains", chains::prepare, 10),
     ("growth", growth::prepare, 105),
     ("link", link::prepare, 0),
 ];

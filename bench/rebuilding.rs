@@ -28,13 +28,15 @@ pub struct Case {
 
 impl Case {
     /// The jobs of a case of admission.
-    pub fn new(case: admission::Case) -> Self {
-        let output = vec![0; case.jobs[0].1.len()];
-        let keep = |(mut store, job): (Store, Vec<u8>)| {
+    pub fn new(case: &admission::Case) -> Self {
+        let output = vec![0; case.jobs[0].job.len()];
+        let keep = |admission: &admission::Admission| {
+            let mut store = admission.store.clone();
+            let job = admission.job.clone();
             let recipe = store.take(&job);
             Kept { job, store, recipe }
         };
-        let jobs = case.jobs.into_iter().map(keep).collect();
+        let jobs = case.jobs.iter().map(keep).collect();
         Self { jobs, output }
     }
 
@@ -55,11 +57,12 @@ pub const CONTESTANTS: [Contestant<Case>; 3] = [
 /// Compares the rebuilt jobs, and measures their rebuilding.
 pub fn prepare(inputs: &Inputs) -> Measure<'_> {
     let (axes, cases) = admission::cases(inputs);
-    let mut cases: Vec<_> = cases.into_iter().map(Case::new).collect();
+    let mut cases: Vec<_> = cases.iter().map(Case::new).collect();
     cases.iter().for_each(compare);
     let contest = Contest {
         title: "Rebuilding",
         contestants: &CONTESTANTS,
+        undo: |_| (),
         unit: "MB/s",
         figure: |case, nanoseconds| megabytes_per_second(case.bytes(), nanoseconds),
     };
@@ -92,6 +95,7 @@ fn rebuild_jobs(
                 head,
                 pool,
                 directory,
+                ..
             } = store;
             let mut written = 0;
             let refusal = rebuild(

@@ -1,7 +1,8 @@
 //! Stores of label-like chunks, and the label-like jobs that they take.
 
-use crate::interface::{Answer, Head, ACCEPTED, DIRECTORY_LIMIT, RECIPE_LIMIT};
+use crate::interface::{Answer, Head, ACCEPTED, CHAINS, DIRECTORY_LIMIT, RECIPE_LIMIT};
 use crate::plain;
+use crate::plain::index::{chain_of, enter, END};
 
 /// The bytes of each job with which a store is filled.
 const FILLING_JOB: usize = 16 << 10;
@@ -16,16 +17,25 @@ pub struct Store {
     pub head: Head,
     pub pool: Vec<u8>,
     pub directory: Vec<u32>,
+    pub index: Vec<u32>,
 }
 
 impl Store {
+    /// A store with this memory and a fresh index.
+    pub fn new(head: Head, pool: Vec<u8>, directory: Vec<u32>) -> Self {
+        let index = vec![END; CHAINS + directory.len() / 2];
+        Self {
+            head,
+            pool,
+            directory,
+            index,
+        }
+    }
+
     /// A store of so many chunks, from jobs of `filling`.
     pub fn filled(window: u32, chunks: usize, filling: &[u8]) -> Self {
-        let mut store = Self {
-            head: Head::fresh(window),
-            pool: vec![0; filling.len()],
-            directory: vec![0; DIRECTORY_LIMIT],
-        };
+        let pool = vec![0; filling.len()];
+        let mut store = Self::new(Head::fresh(window), pool, vec![0; DIRECTORY_LIMIT]);
         let mut jobs = filling.chunks_exact(FILLING_JOB);
         while (store.head.chunks as usize) < chunks {
             store.take(jobs.next().expect("more bytes to fill the store"));
@@ -48,11 +58,29 @@ impl Store {
             chunks: chunks as u32,
             filled,
         };
-        Self {
-            head,
-            pool,
-            directory,
+        Self::new(head, pool, directory).entering(0..chunks as u32)
+    }
+
+    /// This store with an index into which its chunks are entered in this order.
+    pub fn entering(mut self, numbers: impl Iterator<Item = u32>) -> Self {
+        self.index = vec![END; CHAINS + self.directory.len() / 2];
+        for number in numbers {
+            let chain = chain_of(self.chunk(number));
+            enter(&mut self.index, chain, number);
         }
+        self
+    }
+
+    /// This store with the lowest number first on each chain, where takes leave the highest.
+    pub fn reversed(self) -> Self {
+        let numbers = (0..self.head.chunks).rev();
+        self.entering(numbers)
+    }
+
+    /// The chunk with this number.
+    pub fn chunk(&self, number: u32) -> &[u8] {
+        let [offset, length] = self.directory.as_chunks::<2>().0[number as usize];
+        &self.pool[offset as usize..][..length as usize]
     }
 
     /// This store after the take of a job.
@@ -70,6 +98,7 @@ impl Store {
             &mut self.head,
             &mut self.pool,
             &mut self.directory,
+            &mut self.index,
             &mut recipe,
             job,
             &mut answer,

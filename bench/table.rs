@@ -1,6 +1,6 @@
 //! The printed tables: ratios, and absolute figures.
 
-use crate::timing::{best, Contestant};
+use crate::timing::{best, Contestant, Undo};
 use std::time::Duration;
 
 /// What stands above the columns and before the rows. Case `row * columns.len() + column` stands in a row and a column.
@@ -37,11 +37,12 @@ impl Axes {
     }
 }
 
-/// What is measured: its title, the contestants, of which the first is the library, and a figure for the nanoseconds of a
-/// turn at a case, in some unit.
+/// What is measured: its title, the contestants, of which the first is the library, what follows each turn untimed, and a
+/// figure for the nanoseconds of a turn at a case, in some unit.
 pub struct Contest<'a, C> {
     pub title: &'a str,
     pub contestants: &'a [Contestant<C>],
+    pub undo: Undo<C>,
     pub unit: &'a str,
     pub figure: fn(&C, f64) -> f64,
 }
@@ -63,7 +64,7 @@ impl Report {
         cases: &mut [C],
     ) {
         let Contest { title, unit, .. } = contest;
-        let best = best(time, cases, contest.contestants);
+        let best = best(time, cases, contest.contestants, contest.undo);
         let rounds = best.rounds;
         for (which, (name, _)) in contest.contestants.iter().enumerate() {
             let nanoseconds = |case: usize| best.nanoseconds[case][which];
@@ -81,9 +82,13 @@ impl Report {
     }
 }
 
-/// A ratio with two places, three where it is small.
+/// A ratio with two places, more where it is small.
 pub fn ratio(value: f64) -> String {
-    let places = if value < 0.1 { 3 } else { 2 };
+    let places = match value {
+        0.1.. => 2,
+        0.01.. => 3,
+        _ => 4,
+    };
     format!("{value:.places$}")
 }
 

@@ -10,6 +10,9 @@ const SHORT: f64 = 1e6;
 /// A name, and a turn at a case.
 pub type Contestant<C> = (&'static str, fn(&mut C));
 
+/// What follows a turn: it leaves the case as the next turn has to find it, and is not timed.
+pub type Undo<C> = fn(&mut C);
+
 /// The least nanoseconds of a turn, by case and contestant, and the number of rounds.
 pub struct Best {
     pub rounds: usize,
@@ -26,7 +29,12 @@ fn who(round: usize, turn: usize, contestants: usize) -> usize {
 }
 
 /// Measures for a time, and for as many rounds as there are contestants at least, so that each comes first once.
-pub fn best<C>(time: Duration, cases: &mut [C], contestants: &[Contestant<C>]) -> Best {
+pub fn best<C>(
+    time: Duration,
+    cases: &mut [C],
+    contestants: &[Contestant<C>],
+    undo: Undo<C>,
+) -> Best {
     let mut best = Best {
         rounds: 0,
         nanoseconds: vec![vec![f64::INFINITY; contestants.len()]; cases.len()],
@@ -38,10 +46,12 @@ pub fn best<C>(time: Duration, cases: &mut [C], contestants: &[Contestant<C>]) -
                 let which = who(best.rounds, turn, contestants.len());
                 if least[which] < SHORT {
                     contestants[which].1(black_box(case));
+                    undo(case);
                 }
                 let begun = Instant::now();
                 contestants[which].1(black_box(case));
                 least[which] = least[which].min(begun.elapsed().as_nanos() as f64);
+                undo(case);
             }
         }
         best.rounds += 1;

@@ -1,10 +1,11 @@
-//! The store: the quote and the take of a job by a linear search, and the look at a chunk.
+//! The store: the quote and the take of a job by the index, and the look at a chunk.
 
 use super::chunker::first_chunk;
+use super::index::{self, chain_of, index_refused};
 use crate::interface::{
-    Answer, Head, ACCEPTED, CHUNK_NUMBER, DIRECTORY_FULL, DIRECTORY_LIMIT, HEAD, JOB_LENGTH,
-    JOB_LIMIT, MEMORY_LIMIT, POOL_FULL, POOL_LIMIT, RECIPE_FULL, RECIPE_LIMIT, WINDOW,
-    WINDOW_LIMIT,
+    Answer, Head, ACCEPTED, CHAINS, CHUNK_NUMBER, DIRECTORY_FULL, DIRECTORY_LIMIT, HEAD, INDEX,
+    INDEX_LENGTH, JOB_LENGTH, JOB_LIMIT, MEMORY_LIMIT, POOL_FULL, POOL_LIMIT, RECIPE_FULL,
+    RECIPE_LIMIT, WINDOW, WINDOW_LIMIT,
 };
 
 /// The numbers that fill a packet of the link, 64 bytes of 2 each, and the bytes that it is charged at.
@@ -38,11 +39,12 @@ pub fn head_refused(head: &Head, pool: &[u8], directory: &[u32]) -> bool {
     from != u64::from(head.filled) || from > pool.len() as u64
 }
 
-/// The first of the grounds 1 and 3 to 5 that holds.
+/// The first of the grounds 1, 3 to 5, 11 and 12 that holds.
 fn refused(
     head: &Head,
     pool: &[u8],
     directory: &[u32],
+    index: &[u32],
     recipe: &[u32],
     job: &[u8],
 ) -> Result<(), u32> {
@@ -58,15 +60,59 @@ fn refused(
     if head_refused(head, pool, directory) {
         return Err(HEAD);
     }
+    let entries = directory.as_chunks::<2>().0;
+    if index.len() != CHAINS + entries.len() {
+        return Err(INDEX_LENGTH);
+    }
+    if index_refused(pool, &entries[..head.chunks as usize], index) {
+        return Err(INDEX);
+    }
     Ok(())
 }
 
-/// The lowest number of an equal chunk, of the store or else of the job's new ones so far.
-fn search(pool: &[u8], used: &[[u32; 2]], new: &[&[u8]], chunk: &[u8]) -> Option<usize> {
-    let stored = used.iter().position(|[offset, length]| {
-        *length as usize == chunk.len() && pool[*offset as usize..][..chunk.len()] == *chunk
-    });
-    stored.or_else(|| Some(used.len() + new.iter().position(|other| *other == chunk)?))
+/// A new chunk of a job, its chain, and the new chunk of the same chain before it.
+struct New<'a> {
+    chunk: &'a [u8],
+    chain: usize,
+    before: u32,
+}
+
+/// The new chunks of a job, in order, and the last one of each chain.
+struct NewChunks<'a> {
+    chunks: Vec<New<'a>>,
+    last: [u32; CHAINS],
+}
+
+impl<'a> NewChunks<'a> {
+    fn none() -> Self {
+        Self {
+            chunks: Vec::new(),
+            last: [index::END; CHAINS],
+        }
+    }
+
+    /// The place of an equal chunk.
+    fn search(&self, chain: usize, chunk: &[u8]) -> Option<u32> {
+        let mut place = self.last[chain];
+        while place != index::END {
+            let new = &self.chunks[place as usize];
+            if new.chunk == chunk {
+                return Some(place);
+            }
+            place = new.before;
+        }
+        None
+    }
+
+    fn push(&mut self, chain: usize, chunk: &'a [u8]) {
+        let before = self.last[chain];
+        self.last[chain] = self.chunks.len() as u32;
+        self.chunks.push(New {
+            chunk,
+            chain,
+            before,
+        });
+    }
 }
 
 /// Writes a job's recipe, and gives back what the job comes to and its new chunks, in order.
@@ -74,38 +120,41 @@ fn survey<'a>(
     head: &Head,
     pool: &[u8],
     directory: &[u32],
+    index: &[u32],
     recipe: &mut [u32],
     job: &'a [u8],
-) -> Result<(Answer, Vec<&'a [u8]>), u32> {
-    refused(head, pool, directory, recipe, job)?;
+) -> Result<(Answer, Vec<New<'a>>), u32> {
+    refused(head, pool, directory, index, recipe, job)?;
     let entries = directory.as_chunks::<2>().0;
     let used = &entries[..head.chunks as usize];
     let room = pool.len() - head.filled as usize;
-    let mut new = Vec::new();
+    let mut new = NewChunks::none();
     let mut new_bytes = 0;
     let mut numbers = recipe.iter_mut();
     let mut rest = job;
     while !rest.is_empty() {
         let (chunk, after) = rest.split_at(first_chunk(head.window as usize, rest));
         let number = numbers.next().ok_or(RECIPE_FULL)?;
-        let next = used.len() + new.len();
-        let found = search(pool, used, &new, chunk);
+        let next = head.chunks + new.chunks.len() as u32;
+        let chain = chain_of(chunk);
+        let stored = index::search(pool, used, index, chain, chunk);
+        let found = stored.or_else(|| Some(head.chunks + new.search(chain, chunk)?));
         if found.is_none() {
-            if next == entries.len() {
+            if next as usize == entries.len() {
                 return Err(DIRECTORY_FULL);
             }
             if chunk.len() > room - new_bytes {
                 return Err(POOL_FULL);
             }
-            new.push(chunk);
+            new.push(chain, chunk);
             new_bytes += chunk.len();
         }
-        *number = found.unwrap_or(next) as u32;
+        *number = found.unwrap_or(next);
         rest = after;
     }
     let unused = numbers.len();
     let answer = answer(recipe.len() - unused, new_bytes, job.len());
-    Ok((answer, new))
+    Ok((answer, new.chunks))
 }
 
 /// What an accepted job comes to.
@@ -123,12 +172,13 @@ pub fn quote(
     head: &Head,
     pool: &[u8],
     directory: &[u32],
+    index: &[u32],
     recipe: &mut [u32],
     job: &[u8],
     answer: &mut Answer,
 ) -> u32 {
     *answer = Answer::default();
-    match survey(head, pool, directory, recipe, job) {
+    match survey(head, pool, directory, index, recipe, job) {
         Ok((quoted, _)) => {
             *answer = quoted;
             ACCEPTED
@@ -137,21 +187,23 @@ pub fn quote(
     }
 }
 
-/// Takes a job: quotes it, and writes its new chunks and their entries.
+/// Takes a job: quotes it, writes its new chunks and their entries, and enters them in the index.
 #[inline(never)]
 pub fn take(
     head: &mut Head,
     pool: &mut [u8],
     directory: &mut [u32],
+    index: &mut [u32],
     recipe: &mut [u32],
     job: &[u8],
     answer: &mut Answer,
 ) -> u32 {
     *answer = Answer::default();
-    match survey(head, pool, directory, recipe, job) {
+    match survey(head, pool, directory, index, recipe, job) {
         Ok((quoted, new)) => {
             let entries = directory.as_chunks_mut::<2>().0;
-            for chunk in new {
+            for New { chunk, chain, .. } in new {
+                index::enter(index, chain, head.chunks);
                 pool[head.filled as usize..][..chunk.len()].copy_from_slice(chunk);
                 entries[head.chunks as usize] = [head.filled, chunk.len() as u32];
                 head.filled += chunk.len() as u32;

@@ -11,6 +11,7 @@ use crate::random::Random;
 use crate::room::Room;
 use crate::store_calls::Take;
 use crate::tally::Tally;
+use std::iter::successors;
 
 /// Tries this many jobs with indexes of all kinds.
 pub fn run(random: &mut Random, rounds: u64, tally: &mut Tally) -> Result<(), String> {
@@ -33,22 +34,15 @@ pub fn run(random: &mut Random, rounds: u64, tally: &mut Tally) -> Result<(), St
     Ok(())
 }
 
-/// Tells whether the store holds a chunk of the job twice and the higher number comes first on the
-/// chain.
+/// Tells whether the store holds a chunk of the job twice and its lowest number is not the first on
+/// the chain.
 fn higher_comes_first(store: &Store, job: &[u8]) -> bool {
+    let held = |place: usize| Some(store.index[place]).filter(|&number| number != CHAIN_END);
     chunks::chunks(store.head[0], job).iter().any(|&chunk| {
-        let mut lowest = CHAIN_END;
-        let mut number = store.index[chain(chunk)];
-        while number != CHAIN_END {
-            if store.chunk(number as usize) == chunk {
-                if number < lowest && lowest != CHAIN_END {
-                    return true;
-                }
-                lowest = lowest.min(number);
-            }
-            number = store.index[CHAINS + number as usize];
-        }
-        false
+        let is_equal = |number: &u32| store.chunk(*number as usize) == chunk;
+        let next = |number: &u32| held(CHAINS + *number as usize);
+        let first = successors(held(chain(chunk)), next).find(is_equal);
+        first != (0..store.chunks()).find(is_equal)
     })
 }
 
@@ -70,11 +64,9 @@ fn check_order(
     }
     if random.once_in(2) {
         places = 0;
-        refusal = if refusal == ACCEPTED {
-            RECIPE_FULL
-        } else {
-            refusal
-        };
+        if refusal == ACCEPTED {
+            refusal = RECIPE_FULL;
+        }
     }
     if random.once_in(4) {
         let place = 1 + random.below(2);

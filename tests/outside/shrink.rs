@@ -1,7 +1,7 @@
 //! Checking a case and, where it fails, finding a smaller case that fails too.
 
 use crate::memory::{Lent, Store};
-use crate::model::index::CHAIN_END;
+use crate::model::index::{self, CHAIN_END};
 use crate::model::store::head_fits;
 use crate::model::CHAINS;
 use crate::tally::Tally;
@@ -130,8 +130,8 @@ fn index_for(store: &Store, directory: usize) -> Lent<u32> {
     store.index.first(store.index.len().saturating_sub(links))
 }
 
-/// Stores whose index is the one that takes leave, is shorter, or has one more number as takes leave
-/// it.
+/// Stores whose index is the one that takes leave, has one number more of it or, where the length is
+/// not right, is shorter.
 fn simpler_indexes(store: &Store) -> impl Iterator<Item = Store> + '_ {
     let as_takes_leave_it = head_fits(store).then(|| store.clone().indexed());
     let whole = as_takes_leave_it.filter(|other| other != store);
@@ -147,7 +147,9 @@ fn simpler_indexes(store: &Store) -> impl Iterator<Item = Store> + '_ {
         simpler.index[place] = number;
         simpler
     });
-    let shorter = shorter(&store.index).map(|index| Store {
+    let wrong_length = store.index.len() != index::length(store.directory.len());
+    let shorter = shorter(&store.index).filter(move |_| wrong_length);
+    let shorter = shorter.map(|index| Store {
         index,
         ..store.clone()
     });
