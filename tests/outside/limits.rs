@@ -179,8 +179,8 @@ fn longest_directories(random: &mut Random, tally: &mut Tally) -> Result<(), Str
 }
 
 /// Indexes of 66,559 numbers, the longest there are, with 65,535 equal chunks on a chain, the highest
-/// number first and then the lowest first. One of another length, one without the last link and one
-/// whose last link leads back are refused.
+/// number first or the lowest. Refused are a chain that leads back from its end to its start, an index
+/// with a number less or more, and a head that leaves out the first chunk of the chain.
 fn longest_chains(tally: &mut Tally) -> Result<(), String> {
     let entries = DIRECTORY_LIMIT / 2;
     let chunk = vec![5, 5];
