@@ -96,8 +96,8 @@ impl History {
     }
 
     /// Makes the quotes and takes, compares each with the model, with the other on the same inputs and
-    /// with the chunks' first appearances, and rebuilds every accepted job at the end. Gives the
-    /// answers.
+    /// with the chunks' first appearances, and at the end checks the index and rebuilds every accepted
+    /// job. No index may be refused. Gives the answers.
     pub fn run(&self, tally: &mut Tally) -> Result<Vec<Answer<'_>>, String> {
         let (_, opened) = compare(&StoreOpen::new(self.window), tally)?;
         let mut store = Store {
