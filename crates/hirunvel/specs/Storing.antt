@@ -29,9 +29,9 @@ pub record StoreQuotation : Type 0 where
   pub saving : List ℤ
 
 -- "a quote reads store and job and gives the recipe length and the three counts while writing only the recipe"
-unfoldable pub storeQuoted : List ℕ → List ℕ → List ℕ → List ℕ → List ℕ → StoreQuotation
-storeQuoted n pool directory recipe job =
-    let q = quoted (headOf n) pool directory recipe job in
+unfoldable pub storeQuoted : List ℕ → List ℕ → List ℕ → List ℕ → List ℕ → List ℕ → StoreQuotation
+storeQuoted n pool directory index recipe job =
+    let q = quoted (headOf n) pool directory index recipe job in
     record {
       refusal = numberOf (q .answer .refusal);
       recipe = q .recipe;
@@ -45,6 +45,7 @@ pub record StoreTaking : Type 0 where
   pub head : List ℕ
   pub pool : List ℕ
   pub directory : List ℕ
+  pub index : List ℕ
   pub recipe : List ℕ
   pub counts : List ℕ
   pub saving : List ℤ
@@ -54,14 +55,15 @@ abbrev pub headAfter : List ℕ → Taken → List ℕ
 headAfter n t = cond (accepted (t .quoted .refusal)) (headNumbers (t .head)) n
 
 -- "a take stores the job", "give equal lengths and counts, 0 if refused"
-unfoldable pub storeTaken : List ℕ → List ℕ → List ℕ → List ℕ → List ℕ → StoreTaking
-storeTaken n pool directory recipe job =
-    let t = taken (headOf n) pool directory recipe job in
+unfoldable pub storeTaken : List ℕ → List ℕ → List ℕ → List ℕ → List ℕ → List ℕ → StoreTaking
+storeTaken n pool directory index recipe job =
+    let t = taken (headOf n) pool directory index recipe job in
     record {
       refusal = numberOf (t .answer .quoted .refusal);
       head = headAfter n (t .answer);
       pool = t .pool;
       directory = t .directory;
+      index = t .index;
       recipe = t .recipe;
       counts = countsOf (t .answer .quoted);
       saving = t .answer .quoted .saving ∷ [];

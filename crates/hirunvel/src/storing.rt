@@ -15,12 +15,13 @@ pub extern "C" fn hirunvel_store_open(window: u32, head: &mut [u32; 3]) -> u32
 }
 
 // Quotes a job: tells the recipe's length, the new and the repeated bytes, and the saving, and writes only the recipe.
-// Refused by grounds 1 and 3 to 8, with zeros told.
+// Refused by grounds 1, 3 to 8, 11 and 12, with zeros told.
 #[no_mangle]
 pub extern "C" fn hirunvel_store_quote(
     head: &[u32; 3],
     pool: &[u8],
     directory: &[u32],
+    index: &[u32],
     recipe: &mut [u32],
     job: &[u8],
     counts: &mut [u64; 3],
@@ -32,22 +33,23 @@ pub extern "C" fn hirunvel_store_quote(
       counts = now (counts .exit);
       saving = now (saving .exit);
     }
-        ≡ storeQuoted (now (head .entry)) (now (pool .entry)) (now (directory .entry)) (now (recipe .entry)) (now (job .entry)) ⌝ }
+        ≡ storeQuoted (now (head .entry)) (now (pool .entry)) (now (directory .entry)) (now (index .entry)) (now (recipe .entry)) (now (job .entry)) ⌝ }
 {
-    let answer = admission::quote(numbers::head_of(*head), pool, directory, recipe, job);
+    let answer = admission::quote(numbers::head_of(*head), pool, directory, index, recipe, job);
     let refusal = answer.refusal;
     *counts = numbers::of_counts(answer);
     *saving = [answer.saving];
     numbers::of_refusal(refusal)
 }
 
-// Takes a job: tells what its quote tells, and stores its new chunks. Refused by grounds 1 and 3 to 8, with head, pool and
-// directory untouched and zeros told.
+// Takes a job: tells what its quote tells, and stores its new chunks. Refused by grounds 1, 3 to 8, 11 and 12, with head,
+// pool, directory and index untouched and zeros told.
 #[no_mangle]
 pub extern "C" fn hirunvel_store_take(
     head: &mut [u32; 3],
     pool: &mut [u8],
     directory: &mut [u32],
+    index: &mut [u32],
     recipe: &mut [u32],
     job: &[u8],
     counts: &mut [u64; 3],
@@ -58,13 +60,14 @@ pub extern "C" fn hirunvel_store_take(
       head = now (head .exit);
       pool = now (pool .exit);
       directory = now (directory .exit);
+      index = now (index .exit);
       recipe = now (recipe .exit);
       counts = now (counts .exit);
       saving = now (saving .exit);
     }
-        ≡ storeTaken (now (head .entry)) (now (pool .entry)) (now (directory .entry)) (now (recipe .entry)) (now (job .entry)) ⌝ }
+        ≡ storeTaken (now (head .entry)) (now (pool .entry)) (now (directory .entry)) (now (index .entry)) (now (recipe .entry)) (now (job .entry)) ⌝ }
 {
-    let answer = admission::take(numbers::head_of(*head), pool, directory, recipe, job);
+    let answer = admission::take(numbers::head_of(*head), pool, directory, index, recipe, job);
     let quoted = answer.quoted;
     let refusal = quoted.refusal;
     *counts = numbers::of_counts(quoted);

@@ -26,11 +26,11 @@ same-length c = search needs
 
 -- what the call answers and leaves
 abbrev left-by : tie.After-quote → Quotation
-left-by c = record { answer = c .quote .result; recipe = c .quote .last .1 .1 .1 .0 }
+left-by c = record { answer = c .quote .result; recipe = c .quote .last .1 .1 .1 .1 .0 }
 
 -- for the head of the lent numbers
-done : (c : tie.After-quote) → let a = c .before .before .before .before .before .before .before .before .args in
-    left-by c ≡ quoted (headOf (a .head .now)) (a .pool .now) (a .directory .now) (a .recipe .now) (a .job .now)
+done : (c : tie.After-quote) → let a = c .before .before .before .before .before .before .before .before .before .args in
+    left-by c ≡ quoted (headOf (a .head .now)) (a .pool .now) (a .directory .now) (a .index .now) (a .recipe .now) (a .job .now)
 done c = rw (c .before .before .head-of .ensures) at (c .quote .ensures)
 
 -- the saving is kept whole in its 64 bits

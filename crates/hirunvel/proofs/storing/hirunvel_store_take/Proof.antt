@@ -39,6 +39,9 @@ same-length-2 c = search needs
 same-length-3 : tie.Need-same-length-3
 same-length-3 c = search needs
 
+same-length-4 : tie.Need-same-length-4
+same-length-4 c = search needs
+
 -- what the call answers and leaves
 abbrev left-by : tie.After-take → Taking
 left-by c =
@@ -47,17 +50,18 @@ left-by c =
       answer = c .take .result;
       pool = last .1 .0;
       directory = last .1 .1 .0;
-      recipe = last .1 .1 .1 .0;
+      index = last .1 .1 .1 .0;
+      recipe = last .1 .1 .1 .1 .0;
     }
 
 -- for the head of the lent numbers
-done : (c : tie.After-take) → let a = c .before .before .before .before .before .before .before .before .before .before .args in
-    left-by c ≡ taken (headOf (a .head .now)) (a .pool .now) (a .directory .now) (a .recipe .now) (a .job .now)
+done : (c : tie.After-take) → let a = c .before .before .before .before .before .before .before .before .before .before .before .before .args in
+    left-by c ≡ taken (headOf (a .head .now)) (a .pool .now) (a .directory .now) (a .index .now) (a .recipe .now) (a .job .now)
 done c =
-    rw (c .before .before .before .before .head-of .ensures) at (c .take .ensures)
+    rw (c .before .before .before .before .before .head-of .ensures) at (c .take .ensures)
 
 -- the saving is kept whole in its 64 bits
-kept : (c : tie.After-saving) → let z = c .before .before .before .before .before .before .before .before .before .before .take .result .quoted .saving in toZ w64 (ofZ w64 z) ≡ z
+kept : (c : tie.After-saving) → let z = c .before .before .before .before .before .before .before .before .before .before .before .before .take .result .quoted .saving in toZ w64 (ofZ w64 z) ≡ z
 kept c = search needs
 
 returns : tie.Need-returns
@@ -66,8 +70,8 @@ returns c =
     let joined = c .before in
     let tested = joined .before in
     let counted = tested .before .before .before in
-    let take = counted .before .before .before .before .before .before .before .before in
-    let a = take .before .before .before .before .before .before .before .before .before .before .args in
+    let take = counted .before .before .before .before .before .before .before .before .before .before in
+    let a = take .before .before .before .before .before .before .before .before .before .before .before .before .args in
     let answer = take .take .result in
     let head : joined .if1 .head ≡ cond (accepted (answer .quoted .refusal)) (headNumbers (answer .head)) (a .head .now) =
     ⊎-elim (λ moved. rw (sym (tested .accepted .ensures) ∙ moved .0 .taken) (moved .2 ∙ moved .1 .ensures))
@@ -88,4 +92,5 @@ hirunvel-store-take-spec =
     same-length
     same-length-2
     same-length-3
+    same-length-4
     returns)
