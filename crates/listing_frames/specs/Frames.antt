@@ -11,6 +11,7 @@ use Rattle.chunker.specs.Chunks.{chunks}
 use Rattle.directory.specs.Entry.{stride}
 use Rattle.store.specs.Opening.{fresh}
 use Rattle.store.specs.Contents.{has}
+use Rattle.index.specs.Index.{freshIndex}
 use Rattle.admission.specs.Quote.{Quotation, quoted, recipeOf}
 use Rattle.frame_text.specs.Frame.{frame, lastFrame}
 use Rattle.listing_frames.specs.declared.Listed.{Listed}
@@ -22,8 +23,11 @@ window = 4
 abbrev pub poolBytes : ℕ
 poolBytes = 32768
 
+abbrev pub entryCount : ℕ
+entryCount = 1024
+
 abbrev pub directoryNumbers : ℕ
-directoryNumbers = 1024 * stride
+directoryNumbers = entryCount * stride
 
 abbrev pub recipePlaces : ℕ
 recipePlaces = 1024
@@ -48,7 +52,8 @@ refusedFrame refusal = lastFrame 0 0 refusal
 -- "It admits standard input to a fresh store": what its quote answers and leaves, and its take does too
 abbrev pub outcome : List ℕ → Quotation
 outcome job =
-    quoted (fresh window) (replicate poolBytes 0) (replicate directoryNumbers 0) (replicate recipePlaces 0) job
+    quoted (fresh window) (replicate poolBytes 0) (replicate directoryNumbers 0) (freshIndex entryCount)
+    (replicate recipePlaces 0) job
 
 -- the frames of a job, by its quotation
 abbrev pub quotedFrames : List ℕ → Quotation → List ℕ

@@ -11,12 +11,14 @@ use refusal::Refusal;
 pub const LONGEST_JOB: usize = 16384;
 
 // The window of the store that a job is taken into, the bytes of its pool, the numbers of its directory of
-// 1,024 entries, and the places of the recipe.
+// 1,024 entries and of its index, and the places of the recipe.
 const WINDOW: u32 = 4;
 
 const POOL_BYTES: usize = 32768;
 
 const DIRECTORY_NUMBERS: usize = 1024 * directory::STRIDE;
+
+const INDEX_NUMBERS: usize = index::HEADS + 1024;
 
 const RECIPE_PLACES: usize = 1024;
 
@@ -47,15 +49,23 @@ pub fn frames(job: &[u8], output: &mut [u8; OUTPUT_BYTES]) -> Listed
     }
     let mut pool = [0u8; POOL_BYTES];
     let mut directory = [0u32; DIRECTORY_NUMBERS];
+    let mut index = [index::NONE; INDEX_NUMBERS];
     let mut recipe = [0u32; RECIPE_PLACES];
     let opened = store::open(WINDOW);
     let head = opened.head;
-    let quoted = admission::quote(head, &pool, &directory, &mut recipe, job);
+    let quoted = admission::quote(head, &pool, &directory, &index, &mut recipe, job);
     let refusal = quoted.refusal;
     if !refusal::accepted(refusal) {
         return refused(output, refusal);
     }
-    let taken = admission::take(head, &mut pool, &mut directory, &mut recipe, job);
+    let taken = admission::take(
+        head,
+        &mut pool,
+        &mut directory,
+        &mut index,
+        &mut recipe,
+        job,
+    );
     let end = chunks::frames(job, &recipe, output);
     let written = frame_text::last_frame(
         output,

@@ -41,15 +41,15 @@ pub record Accepts (job : List ℕ) (q : Quotation) : Type 0 where
   pub enough : length (chunks window job) ≤ length (q .recipe)
   pub frames : quotedFrames job q ≡ codedFrames job q
 
-module _ (pool directory recipe job : List ℕ) where
+module _ (pool directory index recipe job : List ℕ) where
   -- it has a number for each chunk, and the frames that the code writes
-  pub accepts : (q : Quotation) → q ≡ quoted (fresh window) pool directory recipe job
+  pub accepts : (q : Quotation) → q ≡ quoted (fresh window) pool directory index recipe job
       → accepted (q .answer .refusal) ≡ true → Accepts job q
   unfolding chunksFrom
   accepts q same done =
       let cs = chunks window job in
       let told : recipeOf q ≡ numbers [] cs =
-      rw same (asked (fresh window) pool directory recipe job (rw same at done) .recipe ∙ sym (numbers-after _ (chunks window job))) in
+      rw same (asked (fresh window) pool directory index recipe job (rw same at done) .recipe ∙ sym (numbers-after _ (chunks window job))) in
       let n = q .answer .«recipe_length» in
       let parts = take-append-drop n (q .recipe) in
       let many : length (recipeOf q) ≡ length cs = ap length told ∙ length-numbers [] cs in

@@ -14,6 +14,9 @@ use Rattle.admission.specs.Grounds.{jobAllowed, admissionGround}
 use Rattle.admission.specs.Quote.{quoted}
 use Rattle.store.specs.Memory.{chunksFrom}
 use Rattle.store.specs.Contents.{same, number, has, gain, added, numbers}
+use Rattle.index.specs.Index.{freshIndex}
+use Rattle.index.specs.Grounds.{lengthAllowed, meets}
+use Rattle.index.specs.internal.Along.{belongs, along, alongAll}
 use Rattle.frame_text.specs.Frame.{hex, frame}
 use Rattle.listing_frames.specs.Frames.{chunkFrames, refusedFrame, listing}
 
@@ -36,7 +39,8 @@ last = 70 ∷ 70 ∷ 70 ∷ 70 ∷ 48 ∷ 48 ∷ 48 ∷ 48 ∷ 48 ∷ 48 ∷ 48 
 -- "For twelve bytes 41 it prints exactly" these four lines
 pub twelve-bytes : listing (replicate 12 65) ≡ first ++ (second ++ (third ++ last))
 unfolding listing frame hex chunkFrames has quoted admissionGround windowAllowed jobAllowed memoryAllowed recipeAllowed fits laidOut
-    chunks cutChunks remaining next move walk chunkGround gain added numbers number same chunksFrom
+    lengthAllowed meets alongAll along belongs freshIndex chunks cutChunks remaining next move walk chunkGround gain added
+    numbers number same chunksFrom
 twelve-bytes = refl
 
 -- an empty job gives the last frame only, with refusal 3
