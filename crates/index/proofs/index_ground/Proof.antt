@@ -1,6 +1,7 @@
 -- `index::index_ground` meets its contract.
 use Prim.Native.Nat.{_+_}
-use mathlib.Core.Path.{_≡_, ap, sym, _∙_}
+use native.Mathlib.Omega.{arith}
+use mathlib.Core.Path.{_≡_, sym, _∙_}
 use lib.ListN.{length}
 use borrow.Author.Needs.{needs}
 use Rattle.gear.specs.Gear.{chains}
@@ -19,7 +20,7 @@ returns : tie.Need-returns
 returns c =
     let a = c .before .before .before .before .before .args in
     ground-length (a .head) (a .pool .now) (a .directory .now) (a .index .now)
-    (λ e. c .if1 .taken (e ∙ sym (ap (λ n. chains + n) (c .before .entries .ensures))))
+    (λ e. omega (arith, c .if1 .taken, c .before .entries .ensures))
 
 -- the place of the code where the function starts
 abbrev start-of : tie.Else1 → tie.Start
@@ -27,7 +28,7 @@ start-of c = c .before .before .before .before .before
 
 -- the index has its length
 long : (c : tie.Else1) → let a = start-of c .args in length (a .index .now) ≡ chains + entries (a .directory .now)
-long c = c .if1 .left ∙ ap (λ n. chains + n) (c .before .entries .ensures)
+long c = omega (arith, c .if1 .left, c .before .entries .ensures)
 
 -- so it can be tested
 tested : (c : tie.Else1) → let a = start-of c .args in Testable (a .head) (a .pool .now) (a .directory .now) (a .index .now)

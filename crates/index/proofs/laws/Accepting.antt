@@ -13,7 +13,8 @@ use Rattle.index.specs.Index.{headAt, chainAt, Trail, once, times}
 use Rattle.index.specs.internal.Along.{belongs, alongAll}
 use Rattle.index.specs.Grounds.{meets}
 use Rattle.gear.proofs.laws.Sums.{chain-below}
-use Rattle.index.proofs.laws.Counting.{sumTo, sum-le, sum-tight, sum-add, sum-ones, once-suc, once-le, once-pos, length-times}
+use Rattle.index.proofs.laws.Counting.{sumTo, sum-le, sum-tight, sum-add, sum-ones, length-times}
+use Rattle.index.proofs.laws.Counting.{once-suc, once-le, once-pos}
 use Rattle.index.proofs.laws.Trails.{Belong, trail-belong, along-trail, trail-along}
 
 -- how many of the chunks are of a chain, and of the chains below it

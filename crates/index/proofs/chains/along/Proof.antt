@@ -5,12 +5,14 @@ use mathlib.Core.Path.{refl}
 use borrow.Author.Needs.{needs}
 use Rattle.gear.specs.Gear.{chains}
 use Rattle.store.specs.Memory.{contents}
-use Rattle.index.proofs.laws.chains.Stepping.{Stepped, stepped-out, stepped-end, stepped-astray, stepped-on, past-chunks, other-chain, this-chain}
+use Rattle.index.proofs.laws.chains.Stepping.{Stepped, stepped-out, stepped-end, stepped-astray, stepped-on}
+use Rattle.index.proofs.laws.chains.Stepping.{past-chunks, other-chain, this-chain}
 use Rattle.index.proofs.chains.along.Statement.{statement}
 use Rattle.index.proofs.chains.along.Tie as tie
 
 abbrev Inv-loop : tie.InvT-loop
-Inv-loop entries pool directory index count chain budget left₀ at₀ left at = Stepped index (contents pool directory count) chain budget left at
+Inv-loop entries pool directory index count chain budget left₀ at₀ left at =
+    Stepped index (contents pool directory count) chain budget left at
 
 abbrev μ-loop : tie.MeasureT-loop
 μ-loop entries pool directory index count chain budget left₀ at₀ left at = left

@@ -11,7 +11,8 @@ use Rattle.index.proofs.chains.along_all.Statement.{statement}
 use Rattle.index.proofs.chains.along_all.Tie as tie
 
 abbrev Inv-loop : tie.InvT-loop
-Inv-loop pool directory index count entries left₀ chain₀ left chain = (chain ≤ chains) × (left ≡ alongAll index (contents pool directory count) chain)
+Inv-loop pool directory index count entries left₀ chain₀ left chain =
+    (chain ≤ chains) × (left ≡ alongAll index (contents pool directory count) chain)
 
 abbrev μ-loop : tie.MeasureT-loop
 μ-loop pool directory index count entries left₀ chain₀ left chain = chains - chain

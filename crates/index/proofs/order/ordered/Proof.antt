@@ -1,16 +1,18 @@
 -- `index::order::ordered` meets its contract: what is still to pass gives what was asked.
 use Prim.Native.Nat.{_-_}
 use native.Mathlib.Omega.{arith}
-use mathlib.Core.Path.{_≡_, sym, _∙_}
+use mathlib.Core.Path.{_≡_, _∙_}
 use borrow.Author.Needs.{needs}
 use Rattle.gear.specs.Gear.{chain}
 use Rattle.store.specs.Memory.{chunkAt}
-use Rattle.index.proofs.laws.order.Passing.{Passing, passing-none, passing-inside, passing-chain, passing-other, passing-on, passing-all}
+use Rattle.index.proofs.laws.order.Passing.{Passing, passing-none, passing-inside, passing-chain}
+use Rattle.index.proofs.laws.order.Passing.{passing-other, passing-on, passing-all}
 use Rattle.index.proofs.order.ordered.Statement.{statement}
 use Rattle.index.proofs.order.ordered.Tie as tie
 
 abbrev Inv-loop : tie.InvT-loop
-Inv-loop pool directory index entries heads₀ count before₀ end₀ number₀ heads before end number = Passing pool directory index count heads before end number
+Inv-loop pool directory index entries heads₀ count before₀ end₀ number₀ heads before end number =
+    Passing pool directory index count heads before end number
 
 abbrev μ-loop : tie.MeasureT-loop
 μ-loop pool directory index entries heads₀ count before₀ end₀ number₀ heads before end number = count - number
@@ -36,7 +38,8 @@ sum-to-requires : tie.Need-sum-to-requires Inv-loop μ-loop
 sum-to-requires c κs =
     let sized = c .before in
     let at = sized .before .before in
-    (at .before .before .before .entries .ensures, omega (arith, sized .length-of .ensures, passing-inside (at .loop .inv) (sized .before .loop-test .taken)))
+    let inside = passing-inside (at .loop .inv) (sized .before .loop-test .taken) in
+    (at .before .before .before .entries .ensures, omega (arith, sized .length-of .ensures, inside))
 
 without-requires : tie.Need-without-requires Inv-loop μ-loop
 without-requires c κs = search needs
@@ -77,7 +80,7 @@ returns c =
     let turn = c .before .before .before in
     let sized = turn .before .before .before .before in
     passing-other (sized .before .before .loop .inv) (sized .before .loop-test .taken) _ (sized .length-of .ensures) _
-    (turn .before .before .sum-to .ensures) _ (own-chain turn) (λ e. c .if1 .taken (e ∙ sym (c .before .as-link .ensures)))
+    (turn .before .before .sum-to .ensures) _ (own-chain turn) (λ e. omega (arith, c .if1 .taken, c .before .as-link .ensures))
 
 cast-heads : tie.Need-cast-heads Inv-loop μ-loop
 cast-heads c = search needs
@@ -99,7 +102,7 @@ loop-again c =
     let turn = c .before .before .before in
     let sized = turn .before .before .before .before in
     passing-on (sized .before .before .loop .inv) (sized .before .loop-test .taken) _ (sized .length-of .ensures) _
-    (turn .before .before .sum-to .ensures) _ (own-chain turn) (c .if1 .left ∙ c .before .as-link .ensures)
+    (turn .before .before .sum-to .ensures) _ (own-chain turn) (omega (arith, c .if1 .left, c .before .as-link .ensures))
 
 same-heads-requires : tie.Need-same-heads-requires Inv-loop μ-loop
 same-heads-requires c κs = (c .before .before .loop .inv .long, omega arith)
