@@ -1,11 +1,11 @@
 -- What the places of a recipe say while a quote is under way: each tells what its chunk is, so that a chunk which comes
 -- again in the job is found though nothing of the job is stored.
-use Prim.Native.Nat.{ℕ, suc, _+_, _*_, _-_, _/_, _%_}
+use Prim.Native.Nat.{ℕ, suc, _+_, _*_, _-_, _/_, _%_, _^_}
 use mathlib.Core.Bool.{Bool, false, cond, _||_}
 use mathlib.Core.List.{List, [], _∷_, _++_}
 use lib.Dec.{eqb, ltb}
 use lib.ListN.{length, getD, take, drop}
-use Rattle.gear.specs.Gear.{chain}
+use Rattle.gear.specs.Gear.{sum}
 use Rattle.store.specs.Contents.{number, has}
 
 -- a mark has the chunk's length below this, which no chunk reaches, and above it a code that says what the chunk is
@@ -41,6 +41,14 @@ noPlace = 65535
 abbrev pub firstCode : ℕ → ℕ
 firstCode place = firstBase + place
 
+-- the chains of a job's own new chunks; as the job is not stored, they are apart from the index's, and finer
+abbrev pub ownChains : ℕ
+ownChains = 4096
+
+-- chosen by the Gear sum's top twelve bits
+unfoldable pub ownChain : List ℕ → ℕ
+ownChain bs = sum bs / 2 ^ 20
+
 -- of a job's chunks, those that appear for the first time, each at its place; at other places nothing
 unfoldable pub appearing : List (List ℕ) → List (List ℕ) → List (List ℕ) → List (List ℕ)
 appearing held earlier [] = []
@@ -50,7 +58,7 @@ appearing held earlier (c ∷ cs) =
 -- a chunk is there, and is of a chain
 unfoldable pub ofChain : ℕ → List ℕ → Bool
 ofChain c [] = false
-ofChain c (b ∷ bs) = eqb (chain (b ∷ bs)) c
+ofChain c (b ∷ bs) = eqb (ownChain (b ∷ bs)) c
 
 -- the last of chunks in a row that is of a chain, by its place, counted from `at` on; `before` where there is none
 unfoldable pub lastFrom : ℕ → ℕ → ℕ → List (List ℕ) → ℕ
@@ -64,7 +72,7 @@ lastOf c fs = lastFrom c 0 noPlace fs
 unfoldable pub codeIn : List (List ℕ) → List (List ℕ) → List ℕ → ℕ
 codeIn held earlier c =
     cond (has held c) (number held c)
-    (cond (has earlier c) (repeatCode (number earlier c)) (firstCode (lastOf (chain c) (appearing held [] earlier))))
+    (cond (has earlier c) (repeatCode (number earlier c)) (firstCode (lastOf (ownChain c) (appearing held [] earlier))))
 
 -- its mark
 abbrev pub mark : List (List ℕ) → List (List ℕ) → List ℕ → ℕ

@@ -6,10 +6,9 @@ ghost use mathlib.Core.List.{[], _++_};
 ghost use Prim.Native.Nat.{_+_, _/_, _%_, _≤_, _<_, _^_};
 ghost use lib.Dec.{eqb, leb};
 ghost use lib.ListN.{length, take, drop, set};
-ghost use Rattle.gear.specs.Gear.{chains, chain as chainOf};
 ghost use Rattle.store.specs.Limits.{jobLimit};
 ghost use Rattle.store.specs.Contents.{number as numberOf};
-ghost use Rattle.marks.specs.Marks.{markOf, codeOf, sizeOf, repeatCode, firstBase, firstCode, sizes, firsts, settled};
+ghost use Rattle.marks.specs.Marks.{ownChains, ownChain, markOf, codeOf, sizeOf, repeatCode, firstBase, firstCode, sizes, firsts, settled};
 ghost use Rattle.marks.specs.internal.Places.{startStride, Linked, Heads, Starts, NamesEarlier};
 use directory::ChunkNumber;
 use store::JobPosition;
@@ -28,6 +27,17 @@ pub const NO_PLACE: u32 = 65535;
 
 // The positions of every 64th place's chunk are kept.
 const START_STRIDE: usize = 64;
+
+// The chains of a job's own new chunks.
+pub const OWN_CHAINS: usize = 4096;
+
+// The one that a Gear sum's top twelve bits choose.
+pub fn own_chain(sum: u32) -> usize
+    ensures chain { λ r. ⌜ r ≡ sum / 2 ^ 20 ⌝ }
+    ensures below { λ r. ⌜ r < 4096 ⌝ }
+{
+    (sum >> 20) as usize
+}
 
 // The mark of a chunk that the store holds.
 pub fn stored(number: ChunkNumber, size: usize) -> u32
@@ -108,7 +118,7 @@ fn start_of(starts: &[u32; 1024], recipe: &[u32], place: usize) -> usize
 // The first of the first `used` places at which an equal chunk of the job appears; `used` where there is none. Only the
 // places of the chunk's chain are looked at, the last one first.
 pub fn find(
-    heads: &[u32; 1024],
+    heads: &[u32; OWN_CHAINS],
     starts: &[u32; 1024],
     recipe: &[u32],
     used: usize,
@@ -118,8 +128,8 @@ pub fn find(
 ) -> usize
     requires { ⌜ used ≤ length (now recipe) ⌝ }
     requires { ⌜ 1 ≤ length (now chunk) ⌝ }
-    requires { ⌜ chain ≡ chainOf (now chunk) ⌝ }
-    requires { ⌜ chain < chains ⌝ }
+    requires { ⌜ chain ≡ ownChain (now chunk) ⌝ }
+    requires { ⌜ chain < ownChains ⌝ }
     requires { ⌜ length (now job) ≤ jobLimit ⌝ }
     requires { ⌜ Linked (now job) (now recipe) used ⌝ }
     requires { ⌜ Heads (now job) (now recipe) (now heads) used ⌝ }

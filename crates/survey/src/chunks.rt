@@ -24,7 +24,7 @@ pub fn survey(
         ≡ surveyed head (now (pool .entry)) (now (directory .entry)) (now (recipe .entry)) (now (job .entry)) ⌝ }
 {
     let entries = gear::entries();
-    let mut heads = [marks::NO_PLACE; 1024];
+    let mut heads = [marks::NO_PLACE; marks::OWN_CHAINS];
     let mut starts = [marks::NO_PLACE; 1024];
     let mut progress = crate::begun(head);
     let mut at = 0;
@@ -46,7 +46,7 @@ pub fn survey(
             &mut heads,
             &starts,
             job,
-            gear::chain(&entries, chunk),
+            gear::sum_to(&entries, chunk, chunk.len()),
             chunk,
         );
         let refusal = step.refusal;

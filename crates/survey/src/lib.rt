@@ -86,7 +86,7 @@ fn outcome(refusal: Refusal, progress: Progress) -> Step
     Step { refusal, progress }
 }
 
-// The next chunk of the job, of the chain `own`: one that the store holds or an earlier place of the job has is repeated,
+// The next chunk of the job, with its Gear sum: one that the store holds or an earlier place of the job has is repeated,
 // any other is new. Refused by grounds 6 to 8, with nothing written.
 fn survey_chunk(
     head: Head,
@@ -95,15 +95,15 @@ fn survey_chunk(
     directory: &[u32],
     index: &[u32],
     recipe: &mut [u32],
-    heads: &mut [u32; 1024],
+    heads: &mut [u32; marks::OWN_CHAINS],
     starts: &[u32; 1024],
     job: &[u8],
-    own: usize,
+    sum: u32,
     chunk: &[u8],
 ) -> Step
     requires { ⌜ Lent head (now pool) (now directory) (now index) (now job) (snapshot progress (now recipe)) ⌝ }
     requires { ⌜ Marked (now job) (snapshot progress (now recipe)) (now heads) (now starts) ⌝ }
-    requires { ⌜ Next (now job) (snapshot progress (now recipe)) own (now chunk) ⌝ }
+    requires { ⌜ Next (now job) (snapshot progress (now recipe)) sum (now chunk) ⌝ }
     ensures outcome { λ r. ⌜ record { refusal = r .refusal; snapshot = snapshot (r .progress) (now (recipe .exit)) }
         ≡ chunkOutcome head (now (pool .entry)) (now (directory .entry)) (now (job .entry)) (snapshot progress (now (recipe .entry))) (now (chunk .entry)) ⌝ }
     ensures heads { λ r. ⌜ now (heads .exit)
@@ -115,11 +115,12 @@ fn survey_chunk(
     }
     let size = chunk.len();
     let stored = head.chunks;
-    let number = search::search(pool, directory, index, stored, own, chunk);
+    let number = search::search(pool, directory, index, stored, gear::chain_of(sum), chunk);
     if number.0 < stored.0 {
         recipe[used] = marks::stored(number, size);
         return outcome(Refusal::Accepted, with_repeated(progress, size as u32));
     }
+    let own = marks::own_chain(sum);
     let place = marks::find(heads, starts, recipe, used, job, own, chunk);
     if place < used {
         recipe[used] = marks::repeat(place, size);

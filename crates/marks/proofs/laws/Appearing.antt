@@ -8,11 +8,10 @@ use mathlib.Core.Bool.{true, false, cond, _||_, true≢false}
 use mathlib.Core.List.{List, [], _∷_, _++_}
 use lib.ListN.{length, getD, take, List·getD-append}
 use lib.Seq.{take-at, getD-take}
-use Rattle.gear.specs.Gear.{chain}
 use Rattle.chunker.specs.Chunks.{total}
 use Rattle.store.specs.Contents.{number, has}
 use Rattle.store.proofs.laws.contents.Additions.{total-append}
-use Rattle.marks.specs.Marks.{codeOf, sizeOf, repeatBase, firstBase, firstCode, appearing, lastOf, mark, marks}
+use Rattle.marks.specs.Marks.{codeOf, sizeOf, repeatBase, firstBase, firstCode, appearing, lastOf, mark, marks, ownChain}
 use Rattle.marks.specs.Marks.{sizes, firstAt, firsts}
 use Rattle.marks.specs.internal.Places.{Linked, NamesEarlier}
 use Rattle.marks.proofs.laws.Positions.{StartsAt, total-within}
@@ -59,7 +58,7 @@ number-firsts w job held c some new earlier ds rest p none =
 pub record New (held before : List (List ℕ)) (c : List ℕ) (m : ℕ) : Type 0 where
   pub lacks : has held c ≡ false
   pub none : has before c ≡ false
-  pub link : codeOf m ≡ firstCode (lastOf (chain c) (appearing held [] before))
+  pub link : codeOf m ≡ firstCode (lastOf (ownChain c) (appearing held [] before))
 
 pub first-marked : {held before : List (List ℕ)} {c : List ℕ} {m : ℕ} → Marked held before c m → firstBase ≤ codeOf m
     → New held before c m

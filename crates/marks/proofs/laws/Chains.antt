@@ -1,5 +1,5 @@
 -- The last of chunks in a row that is of a chain.
-use Prim.Native.Nat.{ℕ, zero, suc, _+_, _≤_, _<_}
+use Prim.Native.Nat.{ℕ, zero, suc, _+_, _/_, _^_, _≤_, _<_}
 use native.Mathlib.Omega.{arith}
 use native.Mathlib.Nat.{add-zero, zero-add}
 use mathlib.Core.Path.{_≡_, refl, _∙_}
@@ -7,20 +7,31 @@ use mathlib.Core.Bool.{Bool, true, false, cond}
 use mathlib.Core.List.{List, [], _∷_, _++_}
 use lib.ListN.{length, getD}
 use borrow.Author.Tests.{eq-eqb, eqb-true}
-use Rattle.gear.specs.Gear.{chain}
-use Rattle.marks.specs.Marks.{noPlace, ofChain, lastFrom, lastOf}
+use Rattle.gear.specs.Gear.{sum}
+use Rattle.gear.proofs.laws.Sums.{sum-from-below}
+use Rattle.marks.specs.Marks.{noPlace, ownChains, ownChain, ofChain, lastFrom, lastOf}
+
+-- a chain is one of those that there are heads for
+pub own-below : (bs : List ℕ) → ownChain bs < ownChains
+unfolding ownChain
+own-below bs = omega (arith, sum-from-below 0 bs (omega arith))
+
+-- by the sum
+pub own-sum : (bs : List ℕ) → sum bs / 2 ^ 20 ≡ ownChain bs
+unfolding ownChain
+own-sum bs = refl
 
 -- a chunk is of its own chain
-pub of-own : (f : List ℕ) (c : ℕ) → 1 ≤ length f → chain f ≡ c → ofChain c f ≡ true
+pub of-own : (f : List ℕ) (c : ℕ) → 1 ≤ length f → ownChain f ≡ c → ofChain c f ≡ true
 unfolding ofChain
 of-own [] c l e = absurd (omega arith)
-of-own (b ∷ bs) c l e = eq-eqb (chain (b ∷ bs)) c e
+of-own (b ∷ bs) c l e = eq-eqb (ownChain (b ∷ bs)) c e
 
 -- what is of a chain is a chunk, and the chain is its own
-pub of-chain : (f : List ℕ) (c : ℕ) → ofChain c f ≡ true → (1 ≤ length f) × (chain f ≡ c)
+pub of-chain : (f : List ℕ) (c : ℕ) → ofChain c f ≡ true → (1 ≤ length f) × (ownChain f ≡ c)
 unfolding ofChain
 of-chain [] c e = absurd (let z : _≡_ {A = ℕ} 0 1 = cc in omega arith)
-of-chain (b ∷ bs) c e = (omega arith, eqb-true (chain (b ∷ bs)) c e)
+of-chain (b ∷ bs) c e = (omega arith, eqb-true (ownChain (b ∷ bs)) c e)
 
 -- nothing is of no chain
 pub of-none : (c : ℕ) → ofChain c [] ≡ false

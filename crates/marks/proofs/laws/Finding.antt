@@ -7,10 +7,9 @@ use mathlib.Core.Bool.{true, false, true≢false}
 use mathlib.Core.List.{List, [], _∷_}
 use lib.ListN.{length, getD, take}
 use lib.Seq.{getD-take, length-take-le, take-all}
-use Rattle.gear.specs.Gear.{chains, chain}
 use Rattle.store.specs.Contents.{number}
 use Rattle.store.proofs.laws.contents.Sameness.{equal-same, same-other}
-use Rattle.marks.specs.Marks.{noPlace, ofChain, lastOf, firsts}
+use Rattle.marks.specs.Marks.{noPlace, ofChain, lastOf, firsts, ownChains, ownChain}
 use Rattle.marks.specs.internal.Places.{Heads}
 use Rattle.marks.proofs.laws.Sizes.{length-firsts}
 use Rattle.marks.proofs.laws.Chains.{of-own, Last, nowhere, place, last-from, last-small}
@@ -33,7 +32,7 @@ shown job recipe used = firsts job 0 (take used recipe)
 pub record Finding (job recipe chunk : List ℕ) (used r : ℕ) : Type 0 where
   pub bound : ℕ
   pub within : bound ≤ used
-  pub last : r ≡ lastOf (chain chunk) (take bound (shown job recipe used))
+  pub last : r ≡ lastOf (ownChain chunk) (take bound (shown job recipe used))
   pub others : (q : ℕ) → bound ≤ q → q < used → getD (shown job recipe used) q [] ≡ chunk → ⊥
 
 module _ (job recipe : List ℕ) (used : ℕ) (inside : used ≤ length recipe) where
@@ -42,7 +41,7 @@ module _ (job recipe : List ℕ) (used : ℕ) (inside : used ≤ length recipe) 
   shown-length = length-firsts job 0 (take used recipe) ∙ length-take-le used recipe inside
 
   -- the search starts at the head of the chunk's chain
-  pub finding-starts : (chunk heads : List ℕ) (c : ℕ) → Heads job recipe heads used → c ≡ chain chunk → c < chains
+  pub finding-starts : (chunk heads : List ℕ) (c : ℕ) → Heads job recipe heads used → c ≡ ownChain chunk → c < ownChains
       → Finding job recipe chunk used (getD heads c 0)
   finding-starts chunk heads c h e l =
       record {
@@ -53,7 +52,7 @@ module _ (job recipe : List ℕ) (used : ℕ) (inside : used ≤ length recipe) 
       }
 
   -- and the head fits
-  pub head-small : used ≤ noPlace → (heads : List ℕ) (c : ℕ) → Heads job recipe heads used → c < chains
+  pub head-small : used ≤ noPlace → (heads : List ℕ) (c : ℕ) → Heads job recipe heads used → c < ownChains
       → getD heads c 0 ≤ noPlace
   head-small few heads c h l =
       omega (arith, h .each c l, last-small c (shown job recipe used) (omega (arith, shown-length)))
@@ -72,18 +71,18 @@ module _ {job recipe chunk : List ℕ} {used r : ℕ} (inside : used ≤ length 
     (s : Finding job recipe chunk used r) where
   -- a place before the bound that shows the chunk is of its chain
   pub chain-met : (q : ℕ) → q < s .bound → getD (shown job recipe used) q [] ≡ chunk
-      → ofChain (chain chunk) (getD (before s) q []) ≡ true
+      → ofChain (ownChain chunk) (getD (before s) q []) ≡ true
   chain-met q l e =
-      rw (getD-take (s .bound) (shown job recipe used) q [] l, e) (of-own chunk (chain chunk) some refl)
+      rw (getD-take (s .bound) (shown job recipe used) q [] l, e) (of-own chunk (ownChain chunk) some refl)
 
   -- no place is left
   pub finding-none : used ≤ r → used ≡ number (shown job recipe used) chunk
-  finding-none h = by-last (last-from (chain chunk) 0 noPlace (before s))
+  finding-none h = by-last (last-from (ownChain chunk) 0 noPlace (before s))
     where
       count : length (shown job recipe used) ≡ used
       count = shown-length job recipe used inside
 
-      all : ((q : ℕ) → q < length (before s) → ofChain (chain chunk) (getD (before s) q []) ≡ false)
+      all : ((q : ℕ) → q < length (before s) → ofChain (ownChain chunk) (getD (before s) q []) ≡ false)
           → (q : ℕ) → q < used → getD (shown job recipe used) q [] ≡ chunk → ⊥
       all none q l e =
           elim (decLt q (s .bound)) [
@@ -91,7 +90,7 @@ module _ {job recipe chunk : List ℕ} {used r : ℕ} (inside : used ≤ length 
             | no b ↦ s .others q (omega arith) l e
           ]
 
-      by-last : Last (chain chunk) 0 noPlace (before s) (lastOf (chain chunk) (before s))
+      by-last : Last (ownChain chunk) 0 noPlace (before s) (lastOf (ownChain chunk) (before s))
           → used ≡ number (shown job recipe used) chunk
       by-last (nowhere e none) =
           number-at (shown job recipe used) chunk used (omega (arith, count)) (all none) (λ l. absurd (omega (arith, count)))

@@ -10,10 +10,9 @@ use lib.Dec.{ltb}
 use lib.ListN.{length, getD, take, drop, length-drop}
 use lib.Seq.{getD-take, length-take-le}
 use borrow.Author.Tests.{lt-ltb, ltb-true}
-use Rattle.gear.specs.Gear.{chain}
 use Rattle.store.specs.Contents.{same, number}
 use Rattle.store.proofs.laws.contents.Sameness.{same-equal, equal-same}
-use Rattle.marks.specs.Marks.{codeOf, sizeOf, firstBase, noPlace, ofChain, lastOf, sizes, firstAt}
+use Rattle.marks.specs.Marks.{codeOf, sizeOf, firstBase, noPlace, ofChain, lastOf, sizes, firstAt, ownChain}
 use Rattle.marks.specs.internal.Places.{Linked}
 use Rattle.marks.proofs.laws.Sizes.{sizes-more, sizes-fewer, first-none, first-some, getD-shown}
 use Rattle.marks.proofs.laws.Chains.{of-chain, Last, nowhere, place, last-from}
@@ -31,14 +30,14 @@ module _ {job recipe chunk : List ℕ} {used r : ℕ} (inside : used ≤ length 
   -- the place is before the bound, shows a chunk of the chain, and is the last that does
   record Candidate : Type 0 where
     below : r < s .bound
-    met : ofChain (chain chunk) (getD (shown job recipe used) r []) ≡ true
+    met : ofChain (ownChain chunk) (getD (shown job recipe used) r []) ≡ true
     rest : (q : ℕ) → r < q → q < used → getD (shown job recipe used) q [] ≡ chunk → ⊥
 
   candidate : Candidate
-  candidate = by-last (last-from (chain chunk) 0 noPlace (before s))
+  candidate = by-last (last-from (ownChain chunk) 0 noPlace (before s))
     where
-      at-place : (p : ℕ) → r ≡ p → p < s .bound → ofChain (chain chunk) (getD (before s) p []) ≡ true
-          → ((q : ℕ) → p < q → q < length (before s) → ofChain (chain chunk) (getD (before s) q []) ≡ false) → Candidate
+      at-place : (p : ℕ) → r ≡ p → p < s .bound → ofChain (ownChain chunk) (getD (before s) p []) ≡ true
+          → ((q : ℕ) → p < q → q < length (before s) → ofChain (ownChain chunk) (getD (before s) q []) ≡ false) → Candidate
       at-place p e b o none =
           record {
             below = omega arith;
@@ -50,7 +49,7 @@ module _ {job recipe chunk : List ℕ} {used r : ℕ} (inside : used ≤ length 
             ];
           }
 
-      by-last : Last (chain chunk) 0 noPlace (before s) (lastOf (chain chunk) (before s)) → Candidate
+      by-last : Last (ownChain chunk) 0 noPlace (before s) (lastOf (ownChain chunk) (before s)) → Candidate
       by-last (nowhere e none) = absurd (omega (arith, s .last, linked .few))
       by-last (place p e b o none) =
           at-place p (s .last ∙ e ∙ zero-add p) (omega (arith, before-length inside s)) o none

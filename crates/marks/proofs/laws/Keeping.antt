@@ -10,10 +10,9 @@ use lib.Dec.{eqb}
 use lib.ListN.{length, getD, take, set, replicate, length-append, getD-replicate}
 use lib.Seq.{take-at, take-append-le, getD-set-same, getD-set-other}
 use borrow.Author.Tests.{eq-eqb, eqb-true}
-use Rattle.gear.specs.Gear.{chains, chain}
 use Rattle.chunker.specs.Chunks.{total}
 use Rattle.store.specs.Contents.{has}
-use Rattle.marks.specs.Marks.{noPlace, appearing, ofChain, lastFrom, lastOf, mark, marks, sizes, firsts}
+use Rattle.marks.specs.Marks.{noPlace, appearing, ofChain, lastFrom, lastOf, mark, marks, sizes, firsts, ownChains, ownChain}
 use Rattle.marks.specs.internal.Places.{startStride, Heads, Starts}
 use Rattle.marks.proofs.laws.Sizes.{firsts-append}
 use Rattle.marks.proofs.laws.Chains.{of-own, of-chain, of-none, last-append}
@@ -22,9 +21,9 @@ use Rattle.marks.proofs.laws.Marking.{length-marks, marks-last, Places,
 use Rattle.marks.proofs.laws.Appearing.{first-shown, firsts-marks, sizes-marks, recipe-firsts, recipe-sizes}
 
 -- of no chunk yet
-pub heads-none : (job recipe : List ℕ) → Heads job recipe (replicate chains noPlace) 0
+pub heads-none : (job recipe : List ℕ) → Heads job recipe (replicate ownChains noPlace) 0
 unfolding firsts lastFrom
-heads-none job recipe = record { each = λ c l. getD-replicate chains c noPlace 0 l }
+heads-none job recipe = record { each = λ c l. getD-replicate ownChains c noPlace 0 l }
 
 pub starts-none : (recipe starts : List ℕ) → Starts recipe starts 0
 starts-none recipe starts = record { each = λ k l. absurd (omega arith) }
@@ -32,7 +31,7 @@ starts-none recipe starts = record { each = λ k l. absurd (omega arith) }
 -- the head of a chain is the place that the mark of its next new chunk names
 pub head-is : (w : ℕ) (job : List ℕ) (held ds rest : List (List ℕ)) → Places w job held [] ds rest
     → (more heads : List ℕ) → Heads job (marks held [] ds ++ more) heads (length ds)
-    → (k : ℕ) → k < chains → getD heads k 0 ≡ lastOf k (appearing held [] ds)
+    → (k : ℕ) → k < ownChains → getD heads k 0 ≡ lastOf k (appearing held [] ds)
 head-is w job held ds rest p more heads h k l =
     h .each k l ∙ ap (lastOf k) (recipe-firsts w job held ds rest p more)
 
@@ -121,7 +120,7 @@ module _ (w : ℕ) (job : List ℕ) (held ds : List (List ℕ)) (c : List ℕ) (
 
   module _ (heads : List ℕ) (h : Heads job before heads (length ds)) where
     -- the head of a chain before
-    head-before : (k : ℕ) → k < chains → getD heads k 0 ≡ lastOf k (appearing held [] ds)
+    head-before : (k : ℕ) → k < ownChains → getD heads k 0 ≡ lastOf k (appearing held [] ds)
     head-before = head-is w job held ds (c ∷ rest) p more heads h
 
     -- and after
@@ -136,19 +135,19 @@ module _ (w : ℕ) (job : List ℕ) (held ds : List (List ℕ)) (c : List ℕ) (
         record { each = λ k l. head-before k l ∙ sym (last-after k ∙ rw (known, of-none k)) }
 
     -- a new one becomes that of its chain
-    pub heads-new : length heads ≡ 1024 → (has held c || has ds c) ≡ false
-        → Heads job after (set heads (chain c) (length ds)) (length (ds ++ (c ∷ [])))
+    pub heads-new : length heads ≡ ownChains → (has held c || has ds c) ≡ false
+        → Heads job after (set heads (ownChain c) (length ds)) (length (ds ++ (c ∷ [])))
     heads-new long new =
         record { each = λ k l. each k l (ofChain k c) refl }
       where
-        each : (k : ℕ) → k < chains → (t : Bool) → ofChain k c ≡ t
-            → getD (set heads (chain c) (length ds)) k 0 ≡ lastOf k (firsts job 0 (take (length (ds ++ (c ∷ []))) after))
+        each : (k : ℕ) → k < ownChains → (t : Bool) → ofChain k c ≡ t
+            → getD (set heads (ownChain c) (length ds)) k 0 ≡ lastOf k (firsts job 0 (take (length (ds ++ (c ∷ []))) after))
         each k l true e =
-            let own : chain c ≡ k = of-chain c k e .1 in
-            let here : getD (set heads (chain c) (length ds)) k 0 ≡ length ds =
+            let own : ownChain c ≡ k = of-chain c k e .1 in
+            let here : getD (set heads (ownChain c) (length ds)) k 0 ≡ length ds =
             rw own (getD-set-same heads k (length ds) 0 (omega arith)) in
             here ∙ sym (last-after k ∙ rw (new, e))
         each k l false e =
-            getD-set-other heads (chain c) k (length ds) 0
-            (λ (same : k ≡ chain c). true≢false (sym (of-own c k (next-start p .some) (sym same)) ∙ e))
+            getD-set-other heads (ownChain c) k (length ds) 0
+            (λ (same : k ≡ ownChain c). true≢false (sym (of-own c k (next-start p .some) (sym same)) ∙ e))
             ∙ head-before k l ∙ sym (last-after k ∙ rw (new, e))

@@ -5,7 +5,6 @@ use mathlib.Core.Path.{_≡_, refl, sym, ap, _∙_}
 use mathlib.Core.Bool.{Bool, true, false, cond}
 use mathlib.Core.List.{List, [], _∷_, _++_, append-assoc, append-nil}
 use lib.ListN.{length, getD, length-append}
-use Rattle.gear.specs.Gear.{chain}
 use Rattle.scan.specs.Limits.{chunkLimit}
 use Rattle.chunker.specs.Bytes.{Bytes}
 use Rattle.chunker.specs.Scanner.{windowAllowed}
@@ -14,7 +13,7 @@ use Rattle.store.specs.Limits.{recipeLimit, jobLimit}
 use Rattle.store.specs.Contents.{number, has}
 use Rattle.store.proofs.laws.contents.Numbering.{number-below}
 use Rattle.store.proofs.laws.contents.Additions.{total-append}
-use Rattle.marks.specs.Marks.{markOf, codeOf, sizeOf, repeatBase, repeatCode, firstBase, firstCode, appearing, lastOf}
+use Rattle.marks.specs.Marks.{markOf, codeOf, sizeOf, repeatBase, repeatCode, firstBase, firstCode, appearing, lastOf, ownChain}
 use Rattle.marks.specs.Marks.{codeIn, mark, marks}
 use Rattle.marks.proofs.laws.Positions.{StartsAt, starts-at}
 use Rattle.marks.proofs.laws.Sizes.{code-of-mark, size-of-mark}
@@ -42,14 +41,14 @@ pub data Marked (held earlier : List (List ℕ)) (c : List ℕ) (m : ℕ) : Type
   repeats : has held c ≡ false → has earlier c ≡ true → codeOf m ≡ repeatCode (number earlier c)
       → number earlier c < length earlier → codeOf m < firstBase → sizeOf m ≡ length c → Marked held earlier c m
   appears : has held c ≡ false → has earlier c ≡ false → firstBase ≤ codeOf m
-      → codeOf m ≡ firstCode (lastOf (chain c) (appearing held [] earlier)) → sizeOf m ≡ length c → Marked held earlier c m
+      → codeOf m ≡ firstCode (lastOf (ownChain c) (appearing held [] earlier)) → sizeOf m ≡ length c → Marked held earlier c m
 
 -- which of the three it is
 module _ (held earlier : List (List ℕ)) (c : List ℕ) (few : length held ≤ recipeLimit)
     (short : length earlier ≤ recipeLimit) (small : length c ≤ chunkLimit) where
   by-code : (code : ℕ) (t u : Bool) → has held c ≡ t → has earlier c ≡ u
       → code ≡ cond t (number held c)
-      (cond u (repeatCode (number earlier c)) (firstCode (lastOf (chain c) (appearing held [] earlier))))
+      (cond u (repeatCode (number earlier c)) (firstCode (lastOf (ownChain c) (appearing held [] earlier))))
       → Marked held earlier c (markOf code (length c))
   by-code code true u h e k =
       let is = code-of-mark code (length c) (omega arith) in

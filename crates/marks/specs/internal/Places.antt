@@ -3,9 +3,8 @@ use Prim.Native.Nat.{ℕ, _*_, _-_, _≤_, _<_}
 use mathlib.Core.Path.{_≡_}
 use mathlib.Core.List.{List, []}
 use lib.ListN.{length, getD, take}
-use Rattle.gear.specs.Gear.{chains, chain}
 use Rattle.store.specs.Limits.{recipeLimit}
-use Rattle.marks.specs.Marks.{repeatBase, firstBase, codeOf, firstCode, lastOf, sizes, firsts}
+use Rattle.marks.specs.Marks.{repeatBase, firstBase, codeOf, firstCode, lastOf, sizes, firsts, ownChains, ownChain}
 
 -- the places whose chunk's position a survey keeps: every 64th
 abbrev pub startStride : ℕ
@@ -19,7 +18,7 @@ firstIn job recipe n q = getD (firsts job 0 (take n recipe)) q []
 -- no earlier place shows the same chunk, and the chunks lie in the job
 pub record Linked (job recipe : List ℕ) (n : ℕ) : Type 0 where
   pub links : (q : ℕ) → q < n → firstBase ≤ codeOf (getD recipe q 0)
-      → codeOf (getD recipe q 0) ≡ firstCode (lastOf (chain (firstIn job recipe n q)) (take q (firsts job 0 (take n recipe))))
+      → codeOf (getD recipe q 0) ≡ firstCode (lastOf (ownChain (firstIn job recipe n q)) (take q (firsts job 0 (take n recipe))))
   pub distinct : (p q : ℕ) → p < q → q < n → firstBase ≤ codeOf (getD recipe q 0)
       → firstIn job recipe n p ≡ firstIn job recipe n q → ⊥
   pub inside : sizes (take n recipe) ≤ length job
@@ -27,7 +26,7 @@ pub record Linked (job recipe : List ℕ) (n : ℕ) : Type 0 where
 
 -- a head for each chain: the last place at which a chunk of it appears first
 pub record Heads (job recipe heads : List ℕ) (n : ℕ) : Type 0 where
-  pub each : (c : ℕ) → c < chains → getD heads c 0 ≡ lastOf c (firsts job 0 (take n recipe))
+  pub each : (c : ℕ) → c < ownChains → getD heads c 0 ≡ lastOf c (firsts job 0 (take n recipe))
 
 -- where the chunk of every 64th place starts
 pub record Starts (recipe starts : List ℕ) (n : ℕ) : Type 0 where

@@ -4,11 +4,10 @@ use mathlib.Core.Path.{_≡_}
 use mathlib.Core.List.{List}
 use lib.ListN.{length, set}
 use borrow.Author.Tests.{le-leb, lt-leb, lt-ltb, le-ltb}
-use Rattle.gear.specs.Gear.{chain}
 use Rattle.refusal.specs.declared.Refusal.the-variants.{Accepted, RecipeFull, DirectoryFull, PoolFull}
 use Rattle.directory.specs.Entry.{entries}
 use Rattle.store.specs.declared.Head.{Head}
-use Rattle.marks.specs.Marks.{markOf, repeatCode, firstCode, lastOf}
+use Rattle.marks.specs.Marks.{markOf, repeatCode, firstCode, ownChain, lastOf}
 use Rattle.survey.specs.declared.Progress.{Progress}
 use Rattle.survey.specs.internal.Snapshot.{Snapshot, snapshot, Outcome, ends, withRepeated, withNew}
 use Rattle.survey.specs.internal.Snapshot.{numberIn, firstsIn, placeIn, chunkGround, afterChunk, chunkOutcome, headsAfter}
@@ -51,8 +50,8 @@ module _ (head : Head) (pool directory job : List ℕ) (f : Snapshot) (heads c :
               (rw (lt-ltb _ _ room, le-ltb _ _ lacks, le-ltb _ _ new, lt-ltb _ _ entry, lt-leb _ _ full), rw (lt-ltb _ _ room, le-ltb _ _ lacks, le-ltb _ _ new, lt-ltb _ _ entry, lt-leb _ _ full))
 
           pub appears : f .progress .filled .0 + length c ≤ length pool
-              → Comes (marked (withNew (f .progress) (length c)) (firstCode (lastOf (chain c) (firstsIn head pool directory job f))))
-              (set heads (chain c) (f .progress .«recipe_length»))
+              → Comes (marked (withNew (f .progress) (length c)) (firstCode (lastOf (ownChain c) (firstsIn head pool directory job f))))
+              (set heads (ownChain c) (f .progress .«recipe_length»))
           unfolding chunkOutcome chunkGround afterChunk headsAfter
           appears fitting =
               (rw (lt-ltb _ _ room, le-ltb _ _ lacks, le-ltb _ _ new, lt-ltb _ _ entry, le-leb _ _ fitting), rw (lt-ltb _ _ room, le-ltb _ _ lacks, le-ltb _ _ new, lt-ltb _ _ entry, le-leb _ _ fitting))

@@ -1,15 +1,15 @@
 -- `survey::survey_chunk` meets its contract.
-use Prim.Native.Nat.{ℕ, _+_, _≤_, _<_}
+use Prim.Native.Nat.{ℕ, _+_, _/_, _^_, _≤_, _<_}
 use native.Mathlib.Omega.{arith}
 use mathlib.Core.Path.{_≡_, ap, _∙_}
 use mathlib.Core.List.{List}
 use lib.ListN.{length, set, take}
 use borrow.Author.Needs.{needs}
-use Rattle.gear.specs.Gear.{chains}
-use Rattle.gear.proofs.laws.Sums.{chain-below}
+use Rattle.gear.proofs.laws.Sums.{chain-sum}
 use Rattle.directory.specs.Entry.{entries}
 use Rattle.store.specs.declared.Head.{Head}
-use Rattle.marks.specs.Marks.{lastOf, firsts}
+use Rattle.marks.specs.Marks.{ownChain, lastOf, firsts}
+use Rattle.marks.proofs.laws.Chains.{own-sum}
 use Rattle.marks.proofs.laws.Finding.{head-small}
 use Rattle.survey.specs.internal.Snapshot.{Snapshot, snapshot, numberIn, placeIn}
 use Rattle.survey.proofs.laws.Steps.{recipe-full, found, repeats, directory-full, pool-full, appears}
@@ -44,13 +44,16 @@ abbrev start-of : tie.After-struct-known → tie.Start
 start-of c = c .before .before .before .before .before .before .before
 
 abbrev room-of : tie.After-search → tie.Else1
-room-of c = c .before .before
+room-of c = c .before .before .before
 
 abbrev search-of : tie.Else2 → tie.After-search
 search-of c = c .before .before .before
 
 abbrev lacks-of : tie.After-find → tie.Else2
-lacks-of c = c .before .before .before
+lacks-of c = c .before .before .before .before
+
+abbrev own-of : tie.After-find → tie.After-own-chain
+own-of c = c .before .before .before
 
 abbrev new-of : tie.Else4 → tie.Else3
 new-of c = c .before .before .before .before
@@ -58,10 +61,6 @@ new-of c = c .before .before .before .before
 -- the start of what comes after the search
 abbrev begin-of : tie.Else2 → tie.Start
 begin-of c = start-of (room-of (search-of c) .before)
-
--- the chunk's chain is one of the index
-chain-small : (s : tie.Start) → s .args .own < chains
-chain-small s = omega (arith, s .pre .1 .1 .chain, chain-below (chunk-of s))
 
 cast-used : tie.Need-cast-used
 cast-used c = search needs
@@ -75,8 +74,15 @@ returns c =
     let s = start-of (full .before) in
     rw (c .outcome .ensures) (recipe-full (head-of s) (pool-of s) (directory-of s) (job-of s) (snapshot-of s) (heads-of s) (chunk-of s) (full .if1 .taken))
 
+chain-of-requires : tie.Need-chain-of-requires
+chain-of-requires c κs = search needs
+
 search-requires : tie.Need-search-requires
-search-requires c κs = search needs
+search-requires c κs =
+    let s = start-of (c .before .before .before) in
+    let lent = s .pre .0 in
+    let chain = c .chain-of .ensures .0 ∙ ap (λ n. n / 2 ^ 22) (s .pre .1 .1 .summed) ∙ chain-sum (chunk-of s) in
+    (lent .entries, (lent .indexLength, (lent .indexed, chain)))
 
 stored-requires : tie.Need-stored-requires
 stored-requires c κs = search needs
@@ -114,12 +120,26 @@ lacks : (c : tie.Else2) → let s = begin-of c in
     head-of s .chunks .0 ≤ numberIn (head-of s) (pool-of s) (directory-of s) (job-of s) (chunk-of s)
 lacks c = rw (search-of c .search .ensures) at (c .if2 .left)
 
+own-chain-requires : tie.Need-own-chain-requires
+own-chain-requires c κs = search needs
+
+-- the chain of the job's own chunks is the chunk's
+owns : (c : tie.After-own-chain) → c .own-chain .result ≡ ownChain (chunk-of (begin-of (c .before)))
+owns c =
+    let s = begin-of (c .before) in
+    c .own-chain .ensures .0 ∙ ap (λ n. n / 2 ^ 20) (s .pre .1 .1 .summed) ∙ own-sum (chunk-of s)
+
 find-requires : tie.Need-find-requires
 find-requires c κs =
-    let s = begin-of (c .before .before) in
-    let m = s .pre .1 .0 in
-    let next = s .pre .1 .1 in
-    (m .used, (next .some, (next .chain, (chain-small s, (s .pre .0 .jobLength, (m .linked, (m .ownHeads, m .ownStarts)))))))
+    let own = c .before .before in
+    let s = begin-of (own .before) in
+    let m = s .pre .1 .0 in (
+      m .used,
+      (
+        s .pre .1 .1 .some,
+        (owns own, (own .own-chain .ensures .1, (s .pre .0 .jobLength, (m .linked, (m .ownHeads, m .ownStarts))))),
+      ),
+    )
 
 repeat-requires : tie.Need-repeat-requires
 repeat-requires c κs =
@@ -211,22 +231,24 @@ returns-5 c =
     (pool-full (head-of s) (pool-of s) (directory-of s) (job-of s) (snapshot-of s) (heads-of s) (chunk-of s) (room-of (search-of passed) .if1 .left) (lacks passed) (not-met new) (free-entry entry)
     (omega (arith, full .if5 .taken, s .pre .0 .filled)))
 
--- the start, where the chunk has room
-abbrev fits-of : tie.Else5 → tie.Start
-fits-of c = begin-of (lacks-of (new-of (c .before .before .before) .before))
+-- the search in the job, where the chunk is new and has room
+abbrev fits-of : tie.Else5 → tie.After-find
+fits-of c = new-of (c .before .before .before) .before
 
 mul-first : tie.Need-mul-first
-mul-first c = omega (arith, chain-small (fits-of c))
+mul-first c = omega (arith, own-of (fits-of c) .own-chain .ensures .1)
 
 element-copy-out-first : tie.Need-element-copy-out-first
-element-copy-out-first c = omega (arith, chain-small (fits-of c))
+element-copy-out-first c = omega (arith, own-of (fits-of c) .own-chain .ensures .1)
 
 first-requires : tie.Need-first-requires
 first-requires c κs =
-    let s = fits-of (c .before) in
-    let m = s .pre .1 .0 in (
-      head-small (job-of s) (s .args .recipe .now) (s .args .progress .«recipe_length») (m .used) (m .linked .few) (heads-of s) (s .args .own) (m .ownHeads)
-          (chain-small s),
+    let found = fits-of (c .before) in
+    let s = begin-of (lacks-of found) in
+    let m = s .pre .1 .0 in
+    let own = own-of found .own-chain in (
+      head-small (job-of s) (s .args .recipe .now) (s .args .progress .«recipe_length») (m .used) (m .linked .few) (heads-of s) (own .result)
+          (m .ownHeads) (own .ensures .1),
       omega (arith, s .pre .1 .1 .small),
     )
 
@@ -240,10 +262,10 @@ cast-heads : tie.Need-cast-heads
 cast-heads c = search needs
 
 mul-heads : tie.Need-mul-heads
-mul-heads c = omega (arith, chain-small (fits-of (c .before .before)))
+mul-heads c = omega (arith, own-of (fits-of (c .before .before)) .own-chain .ensures .1)
 
 element-write-heads : tie.Need-element-write-heads
-element-write-heads c = omega (arith, chain-small (fits-of (c .before .before)))
+element-write-heads c = omega (arith, own-of (fits-of (c .before .before)) .own-chain .ensures .1)
 
 cast-with-new : tie.Need-cast-with-new
 cast-with-new c = search needs
@@ -251,7 +273,7 @@ cast-with-new c = search needs
 with-new-requires : tie.Need-with-new-requires
 with-new-requires c κs =
     let fitting = c .before .before in
-    let s = fits-of fitting in
+    let s = begin-of (lacks-of (fits-of fitting)) in
     let next = s .pre .1 .1 in (
       omega (arith, s .pre .0 .chunks),
       (
@@ -275,14 +297,14 @@ returns-6 c =
     let s = begin-of passed in
     let m = s .pre .1 .0 in
     let used = s .args .progress .«recipe_length» in
-    let chain = s .pre .1 .1 .chain in
+    let search = own-of (new .before) in
     let shown = firsts (job-of s) 0 (take used (s .args .recipe .now)) in
-    let own = m .ownHeads .each (s .args .own) (chain-small s) ∙ ap (λ k. lastOf k shown) chain in
+    let own = m .ownHeads .each (search .own-chain .result) (search .own-chain .ensures .1) ∙ ap (λ k. lastOf k shown) (owns search) in
     let told = appears (head-of s) (pool-of s) (directory-of s) (job-of s) (snapshot-of s) (heads-of s) (chunk-of s)
     (room-of (search-of passed) .if1 .left) (lacks passed) (not-met new) (free-entry entry)
     (omega (arith, fitting .if5 .left, s .pre .0 .filled)) in (
       simp (c .outcome6 .ensures, c .before .with-new .ensures, c .before .before .first .ensures, own) (told .0),
-      ap (λ k. set (heads-of s) k used) chain ∙ told .1,
+      ap (λ k. set (heads-of s) k used) (owns search) ∙ told .1,
     )
 
 pub survey-chunk-spec : {M : Type 1} → statement M
@@ -292,6 +314,7 @@ survey-chunk-spec =
     cast-used
     outcome-requires
     returns
+    chain-of-requires
     search-requires
     stored-requires
     mul-recipe
@@ -301,6 +324,7 @@ survey-chunk-spec =
     outcome-requires-2
     same-length
     returns-2
+    own-chain-requires
     find-requires
     repeat-requires
     mul-recipe-2

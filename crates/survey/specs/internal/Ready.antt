@@ -4,7 +4,7 @@ use mathlib.Core.Path.{_≡_}
 use mathlib.Core.Bool.{true}
 use mathlib.Core.List.{List}
 use lib.ListN.{length}
-use Rattle.gear.specs.Gear.{chains, chain}
+use Rattle.gear.specs.Gear.{chains, sum}
 use Rattle.scan.specs.Limits.{chunkLimit}
 use Rattle.store.specs.declared.Head.{Head}
 use Rattle.store.specs.Limits.{poolLimit, directoryLimit, recipeLimit, jobLimit}
@@ -33,9 +33,9 @@ pub record Marked (job : List ℕ) (f : Snapshot) (heads starts : List ℕ) : Ty
   pub ownHeads : Heads job (f .recipe) heads (f .progress .«recipe_length»)
   pub ownStarts : Starts (f .recipe) starts (f .progress .«recipe_length»)
 
--- the chunk is not empty, no longer than any may be, of the chain `own`, and may still be counted
-pub record Next (job : List ℕ) (f : Snapshot) (own : ℕ) (chunk : List ℕ) : Type 0 where
+-- the chunk is not empty, no longer than any may be, has the Gear sum, and may still be counted
+pub record Next (job : List ℕ) (f : Snapshot) (gear : ℕ) (chunk : List ℕ) : Type 0 where
   pub some : 1 ≤ length chunk
   pub small : length chunk ≤ chunkLimit
-  pub chain : own ≡ chain chunk
+  pub summed : gear ≡ sum chunk
   pub counts : f .progress .«new_bytes» + f .progress .«repeated_bytes» + length chunk ≤ length job

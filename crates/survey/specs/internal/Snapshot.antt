@@ -4,7 +4,6 @@ use mathlib.Core.Bool.{Bool, cond, not, _&&_, _||_}
 use mathlib.Core.List.{List, [], _∷_}
 use lib.Dec.{leb, ltb}
 use lib.ListN.{length, set, take}
-use Rattle.gear.specs.Gear.{chain}
 use Rattle.refusal.specs.Number.{accepted}
 use Rattle.refusal.specs.Grounds.{unless, first}
 use Rattle.refusal.specs.declared.Refusal.{Refusal}
@@ -13,7 +12,7 @@ use Rattle.directory.specs.Entry.{entries}
 use Rattle.store.specs.declared.Head.{Head}
 use Rattle.store.specs.Contents.{number}
 use Rattle.store.specs.Memory.{contents}
-use Rattle.marks.specs.Marks.{markOf, repeatCode, firstCode, lastOf, firsts}
+use Rattle.marks.specs.Marks.{markOf, repeatCode, firstCode, ownChain, lastOf, firsts}
 use Rattle.survey.specs.declared.Progress.{Progress}
 
 pub record Snapshot : Type 0 where
@@ -98,7 +97,7 @@ module _ (head : Head) (pool directory job : List ℕ) where
   -- what the place of a chunk is to say
   abbrev pub codeIn : Snapshot → List ℕ → ℕ
   codeIn f c =
-      cond (stored c) (numberIn c) (cond (met f c) (repeatCode (placeIn f c)) (firstCode (lastOf (chain c) (firstsIn f))))
+      cond (stored c) (numberIn c) (cond (met f c) (repeatCode (placeIn f c)) (firstCode (lastOf (ownChain c) (firstsIn f))))
 
   -- what a chunk that no ground refuses leaves
   unfoldable pub afterChunk : Snapshot → List ℕ → Snapshot
@@ -115,4 +114,4 @@ module _ (head : Head) (pool directory job : List ℕ) where
   -- the survey's own heads after it: a new chunk's place becomes the head of its chain
   unfoldable pub headsAfter : Snapshot → List ℕ → List ℕ → List ℕ
   headsAfter f heads c =
-      cond (accepted (chunkGround f c) && not (stored c || met f c)) (set heads (chain c) (f .progress .«recipe_length»)) heads
+      cond (accepted (chunkGround f c) && not (stored c || met f c)) (set heads (ownChain c) (f .progress .«recipe_length»)) heads

@@ -6,7 +6,8 @@ use mathlib.Core.List.{List}
 use borrow.Author.Needs.{needs}
 use borrow.Author.Tests.{not-true, not-false}
 use lib.ListN.{length, take, drop, length-drop, length-take}
-use Rattle.gear.specs.Gear.{table}
+use lib.Seq.{take-length}
+use Rattle.gear.specs.Gear.{sum}
 use Rattle.refusal.specs.Number.{accepted}
 use Rattle.chunker.proofs.laws.ground.Soundness.{window-bounds, fed-accepted, fresh-ground, all-bytes}
 use Rattle.chunker.proofs.laws.NextChunk.{NextChunk, next-of-rest}
@@ -35,7 +36,7 @@ turn-of c = c .before .before .before
 abbrev call-of : tie.After-note-start Inv-loop μ-loop → tie.After-first-chunk Inv-loop μ-loop
 call-of c = c .before .before .before .before
 
-abbrev note-of : tie.After-chain Inv-loop μ-loop → tie.After-note-start Inv-loop μ-loop
+abbrev note-of : tie.After-sum-to Inv-loop μ-loop → tie.After-note-start Inv-loop μ-loop
 note-of c = c .before .before .before .before .before
 
 abbrev chunk-of : tie.After-accepted Inv-loop μ-loop → tie.After-survey-chunk Inv-loop μ-loop
@@ -113,8 +114,8 @@ part-chunk-end c = omega (arith, within c)
 cast-note-start : tie.Need-cast-note-start Inv-loop μ-loop
 cast-note-start c = search needs
 
-cast-t28 : tie.Need-cast-t28 Inv-loop μ-loop
-cast-t28 c =
+cast-survey-chunk : tie.Need-cast-survey-chunk Inv-loop μ-loop
+cast-survey-chunk c =
     let call = c .before .before .before in
     omega (arith, turn-of call .loop .inv .0 .begun .jobLength, call .before .before .loop-test .taken)
 
@@ -124,17 +125,20 @@ note-start-requires c κs =
     let s = turn .loop .inv .0 in
     omega (arith, ap (λ f. f .progress .«recipe_length») (s .state), s .used, s .begun .recipeLength)
 
-chain-requires : tie.Need-chain-requires Inv-loop μ-loop
-chain-requires c κs = search needs
+sum-to-requires : tie.Need-sum-to-requires Inv-loop μ-loop
+sum-to-requires c κs = search needs
 
 survey-chunk-requires : tie.Need-survey-chunk-requires Inv-loop μ-loop
 survey-chunk-requires c κs =
     let note = note-of c in
     let call = call-of note in
-    let s = turn-of call .loop .inv .0 in
-    let chunk = ap (λ n. take n (drop (turn-of call .loop .at) (job-of (turn-of call)))) (handed call) in (
+    let turn = turn-of call in
+    let s = turn .loop .inv .0 in
+    let part = take (turn .loop .at + call .first-chunk .result - turn .loop .at) (drop (turn .loop .at) (job-of turn)) in
+    let chunk = ap (λ n. take n (drop (turn .loop .at) (job-of turn))) (handed call) in
+    let summed : c .sum-to .result ≡ sum part = c .sum-to .ensures ∙ ap sum (take-length part) in (
       lent s _ (next-of call),
-      (rw (note .note-start .ensures) (marked s _ (next-of call)), rw chunk (next-in s _ (next-of call) _ (rw chunk at (c .chain .ensures .0)))),
+      (rw (note .note-start .ensures) (marked s _ (next-of call)), rw chunk (next-in s _ (next-of call) _ (rw chunk at summed))),
     )
 
 accepted-requires : tie.Need-accepted-requires Inv-loop μ-loop
@@ -203,9 +207,9 @@ survey-spec =
     part-chunk-start
     part-chunk-end
     cast-note-start
-    cast-t28
+    cast-survey-chunk
     note-start-requires
-    chain-requires
+    sum-to-requires
     survey-chunk-requires
     accepted-requires
     same-length

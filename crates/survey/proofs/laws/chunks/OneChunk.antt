@@ -10,7 +10,6 @@ use lib.Dec.{ltb}
 use lib.ListN.{length, take, drop, set, length-append, length-drop}
 use lib.Seq.{take-at, drop-drop, drop-append-add, set-split}
 use borrow.Author.Tests.{lt-ltb, le-ltb}
-use Rattle.gear.specs.Gear.{chain}
 use Rattle.chunker.specs.Bytes.{Bytes}
 use Rattle.chunker.specs.Chunks.{chunks, total}
 use Rattle.store.specs.declared.Head.{Head}
@@ -22,7 +21,7 @@ use Rattle.store.proofs.laws.grounds.Filled.{total-contents}
 use Rattle.store.proofs.laws.contents.Numbering.{number-below, number-next}
 use Rattle.store.proofs.laws.contents.Growth.{has-grown}
 use Rattle.store.proofs.laws.contents.Additions.{added-append, repeated-append, grown-added, length-grown, total-append}
-use Rattle.marks.specs.Marks.{markOf, repeatCode, firstCode, lastOf, mark, marks}
+use Rattle.marks.specs.Marks.{markOf, repeatCode, firstCode, ownChain, ownChains, lastOf, mark, marks}
 use Rattle.marks.specs.Marks as marks
 use Rattle.marks.specs.internal.Places.{Heads}
 use Rattle.marks.proofs.laws.Marking.{length-marks, marks-last, Places, next-start}
@@ -162,8 +161,8 @@ module _ (head : Head) (pool directory recipe job : List ℕ) {index : List ℕ}
       where
         by-test : (t : Bool) → has held c ≡ t
             → cond t (number held c)
-            (cond (met head pool directory job (after ds) c) (repeatCode (placeIn head pool directory job (after ds) c)) (firstCode (lastOf (chain c) (firstsIn head pool directory job (after ds)))))
-            ≡ cond t (number held c) (cond (has ds c) (repeatCode (number ds c)) (firstCode (lastOf (chain c) (marks.appearing held [] ds))))
+            (cond (met head pool directory job (after ds) c) (repeatCode (placeIn head pool directory job (after ds) c)) (firstCode (lastOf (ownChain c) (firstsIn head pool directory job (after ds)))))
+            ≡ cond t (number held c) (cond (has ds c) (repeatCode (number ds c)) (firstCode (lastOf (ownChain c) (marks.appearing held [] ds))))
         by-test true h = refl
         by-test false h = rw (met-has h, place-in h, firsts-in)
 
@@ -187,7 +186,7 @@ module _ (head : Head) (pool directory recipe job : List ℕ) {index : List ℕ}
         ap₂ snapshot counts (rw (code-in, marks-last held [] ds c) places)
 
     -- and its own heads go by it
-    pub heads-in : (heads : List ℕ) → length heads ≡ 1024 → accepted (chunkGround head pool directory job (after ds) c) ≡ true
+    pub heads-in : (heads : List ℕ) → length heads ≡ ownChains → accepted (chunkGround head pool directory job (after ds) c) ≡ true
         → Heads job (after ds .recipe) heads (length ds)
         → Heads job (after (ds ++ (c ∷ [])) .recipe) (headsAfter head pool directory job (after ds) heads c) (length (ds ++ (c ∷ [])))
     unfolding headsAfter
@@ -198,6 +197,6 @@ module _ (head : Head) (pool directory recipe job : List ℕ) {index : List ℕ}
         rest es = drop (length (marks held [] es)) recipe
 
         by-test : (t : Bool) → (has held c || has ds c) ≡ t
-            → Heads job (after (ds ++ (c ∷ [])) .recipe) (cond (not t) (set heads (chain c) (length ds)) heads) (length (ds ++ (c ∷ [])))
+            → Heads job (after (ds ++ (c ∷ [])) .recipe) (cond (not t) (set heads (ownChain c) (length ds)) heads) (length (ds ++ (c ∷ [])))
         by-test true e = heads-known (head .window) job held ds c cs places (rest ds) (rest (ds ++ (c ∷ []))) heads h e
         by-test false e = heads-new (head .window) job held ds c cs places (rest ds) (rest (ds ++ (c ∷ []))) heads h long e

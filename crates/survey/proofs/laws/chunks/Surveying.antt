@@ -12,7 +12,7 @@ use lib.ListN.{length, take, drop, set, replicate, length-replicate, length-set,
 use lib.Seq.{drop-drop}
 use Rattle.refusal.specs.Number.{accepted}
 use Rattle.refusal.specs.declared.Refusal.the-variants.{Accepted}
-use Rattle.gear.specs.Gear.{chains, chain}
+use Rattle.gear.specs.Gear.{chains, sum}
 use Rattle.chunker.specs.Bytes.{Bytes}
 use Rattle.chunker.specs.Chunks.{chunks, total}
 use Rattle.chunker.proofs.laws.NextChunk.{NextChunk, no-chunks}
@@ -25,7 +25,7 @@ use Rattle.index.specs.Grounds.{lengthAllowed}
 use Rattle.store.proofs.laws.grounds.Fitting.{fits-facts, entries-in}
 use Rattle.store.proofs.laws.contents.Growth.{grown-append}
 use Rattle.store.proofs.laws.contents.Additions.{length-grown, total-both, total-append}
-use Rattle.marks.specs.Marks.{noPlace, marks}
+use Rattle.marks.specs.Marks.{noPlace, ownChains, ownChain, marks}
 use Rattle.marks.specs.internal.Places.{startStride, Heads, Starts}
 use Rattle.marks.proofs.laws.Marking.{length-marks, Places, next-start}
 use Rattle.marks.proofs.laws.Appearing.{linked}
@@ -52,7 +52,7 @@ pub record Surveying (head : Head) (pool directory index recipe job : List ℕ) 
   pub used : length done ≤ length recipe
   pub listed : length (grown (contents pool directory (head .chunks .0)) done) ≤ entries directory
   pub inPool : total (grown (contents pool directory (head .chunks .0)) done) ≤ length pool
-  pub headsLong : length heads ≡ chains
+  pub headsLong : length heads ≡ ownChains
   pub startsLong : length starts ≡ chains
   pub ownHeads : Heads job (surveyAfter head pool directory recipe done .recipe) heads (length done)
   pub ownStarts : Starts (surveyAfter head pool directory recipe done .recipe) starts (length done)
@@ -70,7 +70,7 @@ surveying-same e h t s = rw (← e, ← h, ← t) s
 -- nothing is surveyed yet
 pub surveying-starts : (head : Head) (pool directory index recipe job : List ℕ)
     → Begun head pool directory index recipe job → Bytes job
-    → Surveying head pool directory index recipe job (snapshot (begunAt head) recipe) (replicate chains noPlace) (replicate chains noPlace) 0
+    → Surveying head pool directory index recipe job (snapshot (begunAt head) recipe) (replicate ownChains noPlace) (replicate chains noPlace) 0
 unfolding added repeated grown marks
 surveying-starts head pool directory index recipe job b bytes =
     let facts = fits-facts head pool directory (b .fitting) in
@@ -85,7 +85,7 @@ surveying-starts head pool directory index recipe job b bytes =
       used = omega arith;
       listed = omega (arith, counted head pool directory recipe job b, facts .counted);
       inPool = omega (arith, full head pool directory recipe job b [], facts .inPool);
-      headsLong = length-replicate chains noPlace;
+      headsLong = length-replicate ownChains noPlace;
       startsLong = length-replicate chains noPlace;
       ownHeads = heads-none job recipe;
       ownStarts = starts-none recipe (replicate chains noPlace);
@@ -108,7 +108,7 @@ heads-length : (head : Head) (pool directory job : List ℕ) (f : Snapshot) (hea
 unfolding headsAfter
 heads-length head pool directory job f heads c =
     let new = not (stored head pool directory job c || met head pool directory job f c) in
-    set-length (accepted (chunkGround head pool directory job f c) && new) heads (chain c) (f .progress .«recipe_length»)
+    set-length (accepted (chunkGround head pool directory job f c) && new) heads (ownChain c) (f .progress .«recipe_length»)
 
 starts-with-length : (starts : List ℕ) (place at : ℕ) → length (startsWith starts place at) ≡ length starts
 starts-with-length starts place at = set-length (eqb (place % startStride) 0) starts (place / startStride) at
@@ -186,14 +186,14 @@ module _ {head : Head} {pool directory index recipe job : List ℕ} {f : Snapsho
           ownStarts = starts-noted (noted recipe ms) starts (length (s .done)) at (s .ownStarts);
         })
 
-    pub next-in : (own : ℕ) → own ≡ chain chunk → Next job f own chunk
-    next-in own e =
+    pub next-in : (gear : ℕ) → gear ≡ sum chunk → Next job f gear chunk
+    next-in gear e =
         let start = next-start marked-places in
         rw (s .state)
         (record {
           some = start .some;
           small = start .small;
-          chain = e;
+          summed = e;
           counts = omega (arith, total-both held (s .done), start .within);
         })
 
