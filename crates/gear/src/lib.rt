@@ -8,8 +8,11 @@ ghost use Rattle.gear.specs.internal.After.{afterSum};
 // The chains of an index: one for each number of ten bits.
 pub const CHAINS: usize = 1024;
 
+// The entries of the table, one for each byte.
+pub type Entries = [u32; 256];
+
 // Entry 0 is 270369; three xorshift steps make each next entry from the last.
-const TABLE: [u32; 256] = [
+const TABLE: Entries = [
     270369,
     67634689,
     2647435461,
@@ -270,14 +273,14 @@ const TABLE: [u32; 256] = [
 
 // The entries of the table. Whatever reads the constant first copies all of it to the stack, so a
 // loop makes one copy before it starts.
-pub fn entries() -> [u32; 256]
+pub fn entries() -> Entries
     ensures { λ r. ⌜ r ≡ table ⌝ }
 {
     TABLE
 }
 
 // A sum after one more byte: twice itself plus the byte's entry, kept to 32 bits.
-fn step(entries: &[u32; 256], sum: u32, b: u8) -> u32
+fn step(entries: &Entries, sum: u32, b: u8) -> u32
     requires { ⌜ now entries ≡ table ⌝ }
     ensures { λ r. ⌜ r ≡ (sum * 2 + getD table b 0) % 2 ^ 32 ⌝ }
 {
@@ -285,7 +288,7 @@ fn step(entries: &[u32; 256], sum: u32, b: u8) -> u32
 }
 
 // The sum of the bytes from one place to another.
-fn stretch(entries: &[u32; 256], bytes: &[u8], from: usize, to: usize) -> u32
+fn stretch(entries: &Entries, bytes: &[u8], from: usize, to: usize) -> u32
     requires { ⌜ (now entries ≡ table) × (from ≤ to) × (to ≤ length (now bytes)) ⌝ }
     ensures { λ r. ⌜ r ≡ sum (take (to - from) (drop from (now (bytes .entry)))) ⌝ }
 {
@@ -307,7 +310,7 @@ fn joined(high: u32, low: u32) -> u32
 
 // The sum of the 32 bytes before a place. Each step waits for the one before it, so four stretches of
 // eight bytes are summed side by side.
-fn last_32(entries: &[u32; 256], bytes: &[u8], end: usize) -> u32
+fn last_32(entries: &Entries, bytes: &[u8], end: usize) -> u32
     requires { ⌜ (now entries ≡ table) × (32 ≤ end) × (end ≤ length (now bytes)) ⌝ }
     ensures { λ r. ⌜ r ≡ sum (take 32 (drop (end - 32) (now (bytes .entry)))) ⌝ }
 {
@@ -328,7 +331,7 @@ fn last_32(entries: &[u32; 256], bytes: &[u8], end: usize) -> u32
 
 // The sum of the bytes before a place. At most the last 32 of them are summed, since no others show: each byte doubles the
 // sum, and 32 doublings leave nothing of it in 32 bits.
-pub fn sum_to(entries: &[u32; 256], bytes: &[u8], end: usize) -> u32
+pub fn sum_to(entries: &Entries, bytes: &[u8], end: usize) -> u32
     requires { ⌜ (now entries ≡ table) × (end ≤ length (now bytes)) ⌝ }
     ensures { λ r. ⌜ r ≡ sum (take end (now (bytes .entry))) ⌝ }
 {
@@ -357,7 +360,7 @@ pub fn chain_of(sum: u32) -> usize
 }
 
 // The chain of some bytes.
-pub fn chain(entries: &[u32; 256], bytes: &[u8]) -> usize
+pub fn chain(entries: &Entries, bytes: &[u8]) -> usize
     requires { ⌜ now entries ≡ table ⌝ }
     ensures chain { λ r. ⌜ r ≡ chain (now (bytes .entry)) ⌝ }
     ensures below { λ r. ⌜ r < 1024 ⌝ }

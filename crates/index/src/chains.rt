@@ -14,7 +14,7 @@ use crate::HEADS;
 use crate::NONE;
 
 // The chain of the chunk that has a number.
-fn chain_at(entries: &[u32; 256], pool: &[u8], directory: &[u32], number: usize) -> usize
+fn chain_at(entries: &gear::Entries, pool: &[u8], directory: &[u32], number: usize) -> usize
     requires { ⌜ now entries ≡ table ⌝ }
     requires { ⌜ number * stride + 1 < length (now directory) ⌝ }
     requires { ⌜ offsetAt (now directory) number + lengthAt (now directory) number ≤ length (now pool) ⌝ }
@@ -28,7 +28,7 @@ fn chain_at(entries: &[u32; 256], pool: &[u8], directory: &[u32], number: usize)
 
 // Follows one chain: what is left of a budget of steps, or 0 where a step leads to no chunk of the chain or none is left.
 fn along(
-    entries: &[u32; 256],
+    entries: &gear::Entries,
     pool: &[u8],
     directory: &[u32],
     index: &[u32],

@@ -107,7 +107,8 @@ fn survey_chunk(
     ensures outcome { λ r. ⌜ record { refusal = r .refusal; snapshot = snapshot (r .progress) (now (recipe .exit)) }
         ≡ chunkOutcome head (now (pool .entry)) (now (directory .entry)) (now (job .entry)) (snapshot progress (now (recipe .entry))) (now (chunk .entry)) ⌝ }
     ensures heads { λ r. ⌜ now (heads .exit)
-        ≡ headsAfter head (now (pool .entry)) (now (directory .entry)) (now (job .entry)) (snapshot progress (now (recipe .entry))) (now (heads .entry)) (now (chunk .entry)) ⌝ }
+        ≡ headsAfter head (now (pool .entry)) (now (directory .entry)) (now (job .entry)) (snapshot progress (now (recipe .entry)))
+        (now (heads .entry)) (now (chunk .entry)) ⌝ }
 {
     let used = progress.recipe_length as usize;
     if recipe.len() <= used {

@@ -33,7 +33,7 @@ use Rattle.survey.specs.internal.Begun.{Begun}
 use Rattle.survey.specs.internal.Surveyed.{surveyAfter}
 use Rattle.survey.proofs.laws.Walking.{Fits, walk-fits, Prefix, walk-prefix}
 use Rattle.survey.proofs.laws.chunks.OneChunk.{noted-length}
-use Rattle.survey.proofs.laws.chunks.Surveying.{length-fits}
+use Rattle.index.proofs.laws.Grounds.{length-fits}
 use Rattle.admission.specs.Grounds.{jobAllowed}
 use Rattle.admission.proofs.laws.grounds.Passed.{Passed}
 

@@ -17,7 +17,7 @@ use Rattle.store.proofs.laws.contents.Additions.{grown-added}
 use Rattle.index.specs.Grounds.{meets}
 use Rattle.storing.proofs.laws.Adding.{adding-lengths, adding-fits, adding-holds}
 use Rattle.storing.proofs.laws.Indexing.{adding-index-length, adding-meets}
-use Rattle.survey.proofs.laws.chunks.Surveying.{length-fits}
+use Rattle.index.proofs.laws.Grounds.{length-fits}
 use Rattle.admission.specs.Quote.{quoted}
 use Rattle.admission.specs.Take.{Taking, newOf, stores, taken}
 use Rattle.admission.proofs.laws.Chunks.{chunks-allowed, added-allowed}

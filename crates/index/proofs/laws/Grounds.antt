@@ -5,7 +5,7 @@ use mathlib.Core.Path.{_≡_}
 use mathlib.Core.Bool.{true, false}
 use mathlib.Core.List.{List, [], _∷_}
 use lib.ListN.{length}
-use borrow.Author.Tests.{eq-eqb, ne-eqb}
+use borrow.Author.Tests.{eqb-true, eq-eqb, ne-eqb}
 use Rattle.refusal.specs.Grounds.{first}
 use Rattle.refusal.specs.declared.Refusal.{Refusal}
 use Rattle.refusal.specs.declared.Refusal.the-variants.{Accepted, IndexLength, Index}
@@ -22,6 +22,12 @@ use Rattle.index.specs.Grounds.{lengthAllowed, indexLengthGround, meets,
 use Rattle.index.specs.internal.Ordered.{noNumber, ordered}
 use Rattle.index.proofs.laws.Accepting.{met-meets}
 use Rattle.index.proofs.laws.Ordering.{ordered-met}
+
+-- an index that ground 11 does not refuse has a link for each entry
+pub length-fits : (directory index : List ℕ) → lengthAllowed directory index ≡ true
+    → length index ≡ chains + entries directory
+unfolding lengthAllowed
+length-fits directory index h = eqb-true (length index) (chains + entries directory) h
 
 -- what both tests ask of a store
 pub record Testable (head : Head) (pool directory index : List ℕ) : Type 0 where

@@ -20,8 +20,7 @@ use Rattle.directory.specs.Entry.{entries}
 use Rattle.store.specs.declared.Head.{Head}
 use Rattle.store.specs.Contents.{gain, grown, added, repeated}
 use Rattle.store.specs.Memory.{contents}
-use borrow.Author.Tests.{eqb-true}
-use Rattle.index.specs.Grounds.{lengthAllowed}
+use Rattle.index.proofs.laws.Grounds.{length-fits}
 use Rattle.store.proofs.laws.grounds.Fitting.{fits-facts, entries-in}
 use Rattle.store.proofs.laws.contents.Growth.{grown-append}
 use Rattle.store.proofs.laws.contents.Additions.{length-grown, total-both, total-append}
@@ -96,11 +95,6 @@ surveying-starts head pool directory index recipe job b bytes =
 set-length : (t : Bool) (xs : List ℕ) (i x : ℕ) → length (cond t (set xs i x) xs) ≡ length xs
 set-length true xs i x = length-set xs i x
 set-length false xs i x = refl
-
--- an index that ground 11 does not refuse has room for the directory's entries
-pub length-fits : (directory index : List ℕ) → lengthAllowed directory index ≡ true → length index ≡ chains + entries directory
-unfolding lengthAllowed
-length-fits directory index h = eqb-true (length index) (chains + entries directory) h
 
 -- the heads and the starts keep their lengths
 heads-length : (head : Head) (pool directory job : List ℕ) (f : Snapshot) (heads c : List ℕ)
