@@ -1,3 +1,4 @@
 pub mod Events
+pub mod Untested
 pub mod Appearances
 pub mod Fields

@@ -2,6 +2,7 @@ pub mod FirstAppearances
 pub mod Quotes
 pub mod Saving
 pub mod NumbersStay
+pub mod IndexStays
 pub mod GivesBack
 pub mod SeveralFields
 pub mod Promise

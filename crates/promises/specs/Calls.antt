@@ -1,5 +1,5 @@
--- A C program's calls on one store, one after another: each gets the head, the pool and the directory that the one before
--- it left.
+-- A C program's calls on one store, one after another: each gets the head, the pool, the directory and the index that the
+-- one before it left.
 use Prim.Native.Nat.{ℕ, zero, suc, _+_}
 use mathlib.Core.Path.{_≡_}
 use mathlib.Core.Bool.{cond}
@@ -7,6 +7,8 @@ use mathlib.Core.List.{List, [], _∷_, _++_}
 use lib.Dec.{eqb}
 use lib.ListN.{length, take, drop, getD}
 use Rattle.chunker.specs.Chunks.{chunks}
+use Rattle.directory.specs.Entry.{entries}
+use Rattle.index.specs.Index.{freshIndex}
 use Rattle.promises.specs.History.{Event, quoting, taking, reading, eventAt}
 use Rattle.promises.specs.FirstAppearances.{FirstAppearances}
 use Rattle.promises.specs.Saving.{jobSaving}
@@ -19,18 +21,20 @@ pub record Memory : Type 0 where
   pub head : List ℕ
   pub pool : List ℕ
   pub directory : List ℕ
+  pub index : List ℕ
 
--- after hirunvel_store_open, with any pool and directory
+-- after hirunvel_store_open, with any pool and directory, and an index whose every byte is FF
 abbrev pub opened : ℕ → List ℕ → List ℕ → Memory
-opened w pool directory = record { head = storeOpened w .head; pool = pool; directory = directory }
+opened w pool directory =
+    record { head = storeOpened w .head; pool = pool; directory = directory; index = freshIndex (entries directory) }
 
 -- a call of hirunvel_store_quote
 abbrev pub quoteCall : Memory → List ℕ → List ℕ → StoreQuotation
-quoteCall m job recipe = storeQuoted (m .head) (m .pool) (m .directory) recipe job
+quoteCall m job recipe = storeQuoted (m .head) (m .pool) (m .directory) (m .index) recipe job
 
 -- a call of hirunvel_store_take
 abbrev pub takeCall : Memory → List ℕ → List ℕ → StoreTaking
-takeCall m job recipe = storeTaken (m .head) (m .pool) (m .directory) recipe job
+takeCall m job recipe = storeTaken (m .head) (m .pool) (m .directory) (m .index) recipe job
 
 -- what a take tells
 abbrev pub toldBy : StoreTaking → StoreQuotation
@@ -41,7 +45,7 @@ unfoldable pub leaves : Memory → Event → Memory
 leaves m (quoting job recipe) = m
 leaves m (taking job recipe) =
     let t = takeCall m job recipe in
-    record { head = t .head; pool = t .pool; directory = t .directory }
+    record { head = t .head; pool = t .pool; directory = t .directory; index = t .index }
 leaves m reading = m
 
 -- the chunks of a job whose take returns 0

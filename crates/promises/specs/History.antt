@@ -1,5 +1,5 @@
 -- What can happen to a store, one thing after another: "Each admission gets the head that the one before handed back,
--- refused or not, with pool and directory as that one left them".
+-- refused or not, with pool and directory as that one left them"; so does it get the index.
 use Prim.Native.Nat.{ℕ, zero, suc}
 use mathlib.Core.Path.{_≡_}
 use mathlib.Core.Bool.{Bool, true, false, cond}
@@ -8,9 +8,11 @@ use lib.ListN.{getD}
 use Rattle.refusal.specs.Number.{accepted}
 use Rattle.chunker.specs.Bytes.{Bytes}
 use Rattle.chunker.specs.Chunks.{chunks}
+use Rattle.directory.specs.Entry.{entries}
 use Rattle.store.specs.declared.Head.{Head}
 use Rattle.store.specs.Memory.{contents}
 use Rattle.store.specs.Opening.{fresh}
+use Rattle.index.specs.Index.{freshIndex}
 use Rattle.admission.specs.Quote.{Quotation, quoted}
 use Rattle.admission.specs.Take.{Taking, quotationOf, taken}
 
@@ -19,17 +21,19 @@ pub data Event : Type 0 where
   quoting : (job recipe : List ℕ) → Event
   -- a job is taken, and lent memory for its recipe
   taking : (job recipe : List ℕ) → Event
-  -- a look or a rebuilding, which writes neither head nor pool nor directory
+  -- a look or a rebuilding, which writes neither head nor pool nor directory nor index
   reading : Event
 
 pub record State : Type 0 where
   pub head : Head
   pub pool : List ℕ
   pub directory : List ℕ
+  pub index : List ℕ
 
--- "The list starts from a fresh head and any lent pool and directory, whatever they hold"
+-- "The list starts from a fresh head and any lent pool and directory, whatever they hold", and from a fresh index
 abbrev pub start : ℕ → List ℕ → List ℕ → State
-start w pool directory = record { head = fresh w; pool = pool; directory = directory }
+start w pool directory =
+    record { head = fresh w; pool = pool; directory = directory; index = freshIndex (entries directory) }
 
 -- the chunks that the store holds in a state
 abbrev pub holds : State → List (List ℕ)
@@ -37,18 +41,18 @@ holds s = contents (s .pool) (s .directory) (s .head .chunks .0)
 
 -- a quote in a state: what it answers, and how it leaves the recipe
 abbrev pub quoteIn : State → List ℕ → List ℕ → Quotation
-quoteIn s job recipe = quoted (s .head) (s .pool) (s .directory) recipe job
+quoteIn s job recipe = quoted (s .head) (s .pool) (s .directory) (s .index) recipe job
 
 -- a take in a state
 abbrev pub takeIn : State → List ℕ → List ℕ → Taking
-takeIn s job recipe = taken (s .head) (s .pool) (s .directory) recipe job
+takeIn s job recipe = taken (s .head) (s .pool) (s .directory) (s .index) recipe job
 
 -- the state that an event leaves; a quote writes only the recipe
 unfoldable pub leaves : State → Event → State
 leaves s (quoting job recipe) = s
 leaves s (taking job recipe) =
     let t = takeIn s job recipe in
-    record { head = t .answer .head; pool = t .pool; directory = t .directory }
+    record { head = t .answer .head; pool = t .pool; directory = t .directory; index = t .index }
 leaves s reading = s
 
 -- "Only a take that reports no refusal makes a job accepted; a quote alone never does"

@@ -5,6 +5,7 @@ pub mod FirstAppearances
 pub mod Saving
 pub mod GivesBack
 pub mod NumbersStay
+pub mod IndexStays
 pub mod Fields
 pub mod Promise
 pub mod Calls

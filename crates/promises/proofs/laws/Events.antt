@@ -5,16 +5,22 @@ use native.Mathlib.Nat.{add-zero, add-suc}
 use mathlib.Core.Path.{_≡_, refl, ap, sym, _∙_, subst}
 use mathlib.Core.Bool.{Bool, true, false, cond}
 use mathlib.Core.List.{List, [], _∷_, _++_, map}
-use lib.ListN.{length}
+use lib.ListN.{length, length-replicate}
+use borrow.Author.Tests.{eq-eqb}
 use Rattle.refusal.specs.Number.{accepted}
 use Rattle.chunker.specs.Bytes.{Bytes}
 use Rattle.chunker.specs.Scanner.{windowAllowed}
 use Rattle.chunker.specs.Chunks.{chunks}
+use Rattle.gear.specs.Gear.{chains}
+use Rattle.directory.specs.Entry.{entries}
 use Rattle.store.specs.Contents.{number, grown}
 use Rattle.store.specs.Grounds.{fits, memoryAllowed}
 use Rattle.store.specs.Limits.{recipeLimit}
 use Rattle.store.specs.Memory.{chunksFrom}
 use Rattle.store.proofs.laws.grounds.Fitting.{fresh-fits}
+use Rattle.index.specs.Index.{none, freshIndex}
+use Rattle.index.specs.Grounds.{lengthAllowed, meets}
+use Rattle.index.proofs.theorems.Entering.{fresh-meets}
 use Rattle.store.proofs.laws.contents.Growth.{Among, grown-keeps, grown-has, grown-append, numbers-grown}
 use Rattle.admission.specs.Quote.{Quotation, recipeOf}
 use Rattle.admission.proofs.laws.Asked.{Asked, passed, asked, chunks-few}
@@ -23,9 +29,11 @@ use Rattle.admission.proofs.theorems.QuoteAndTake.{same-quotation, same-refusal
 use Rattle.promises.specs.History.{Event, quoting, taking, reading, State, start, holds, quoteIn, leaves, accepts, chunksOf, eventAt}
 use Rattle.promises.specs.History.{before, chunksBefore, Takes, takes, Asks, byQuote, byTake, TakenAt, AskedAt, BytesIn, AllBytes}
 
--- the head fits pool and directory
-abbrev pub Fitting : State → Type 0
-Fitting s = fits (s .head) (s .pool) (s .directory) ≡ true
+-- head and index fit pool and directory: none of the grounds 5, 11 and 12 holds
+pub record Fitting (s : State) : Type 0 where
+  pub head : fits (s .head) (s .pool) (s .directory) ≡ true
+  pub indexLength : lengthAllowed (s .directory) (s .index) ≡ true
+  pub indexed : meets (s .index) (holds s) ≡ true
 
 -- the chunks that an event adds in a state
 abbrev pub addedChunks : State → Event → List (List ℕ)
@@ -55,9 +63,16 @@ grows-then s t u cs ds g h =
       directoryLength = h .directoryLength ∙ g .directoryLength;
     }
 
--- states with the same head, pool and directory
-same-state : (s t : State) → t .head ≡ s .head → t .pool ≡ s .pool → t .directory ≡ s .directory → t ≡ s
-same-state s t h p d = rw (h, p, d)
+-- states with the same head, pool, directory and index
+same-state : (s t : State) → t .head ≡ s .head → t .pool ≡ s .pool → t .directory ≡ s .directory
+    → t .index ≡ s .index → t ≡ s
+same-state s t h p d i = rw (h, p, d, i)
+
+-- whether an index has its length depends on lengths only
+length-allowed-same : (directory index directory′ index′ : List ℕ) → length directory′ ≡ length directory
+    → length index′ ≡ length index → lengthAllowed directory index ≡ true → lengthAllowed directory′ index′ ≡ true
+unfolding lengthAllowed
+length-allowed-same directory index directory′ index′ d i h = rw (d, i) h
 
 -- a take adds the chunks of its job, or nothing
 grows-take : (s : State) → Fitting s → (job recipe : List ℕ) → Bytes job
@@ -66,22 +81,26 @@ unfolding leaves grown
 grows-take s f job recipe b = step (accepts s (taking job recipe)) refl
   where
     same : accepts s (taking job recipe) ≡ accepted (quoteIn s job recipe .answer .refusal)
-    same = ap accepted (same-refusal (s .head) (s .pool) (s .directory) recipe job)
+    same = ap accepted (same-refusal (s .head) (s .pool) (s .directory) (s .index) recipe job)
 
     step : (t : Bool) → accepts s (taking job recipe) ≡ t
         → Grows s (leaves s (taking job recipe)) (cond t (chunks (s .head .window) job) [])
     step true h =
-        let a = adds (s .head) (s .pool) (s .directory) recipe job (sym same ∙ h) b in
+        let a = adds (s .head) (s .pool) (s .directory) (s .index) recipe job (sym same ∙ h) b in
         record {
-          fitting = a .fitting;
+          fitting = record {
+            head = a .fitting;
+            indexLength = length-allowed-same (s .directory) (s .index) _ _ (a .directoryLength) (a .indexLength) (f .indexLength);
+            indexed = a .indexed;
+          };
           window = a .window;
           held = a .held;
           poolLength = a .poolLength;
           directoryLength = a .directoryLength;
         }
     step false h =
-        let u = untouched (s .head) (s .pool) (s .directory) recipe job (sym same ∙ h) in
-        let left = same-state s (leaves s (taking job recipe)) (u .sameHead) (u .samePool) (u .sameDirectory) in
+        let u = untouched (s .head) (s .pool) (s .directory) (s .index) recipe job (sym same ∙ h) in
+        let left = same-state s (leaves s (taking job recipe)) (u .sameHead) (u .samePool) (u .sameDirectory) (u .sameIndex) in
         rw left (grows-none s f)
 
 -- what each event adds
@@ -141,7 +160,7 @@ taken-asked a = record { stands = taking-asks (a .stands); accepted = a .accepte
 pub as-quoted : {s : State} {e : Event} {job : List ℕ} {q : Quotation} → Asks s e job q
     → (recipe : List ℕ) × (q ≡ quoteIn s job recipe)
 as-quoted (byQuote {job} {recipe}) = (recipe, refl)
-as-quoted {s} (byTake {job} {recipe}) = (recipe, same-quotation (s .head) (s .pool) (s .directory) recipe job)
+as-quoted {s} (byTake {job} {recipe}) = (recipe, same-quotation (s .head) (s .pool) (s .directory) (s .index) recipe job)
 
 -- the chunks that a take which is not refused adds
 pub taken-chunks : {s : State} {e : Event} {job : List ℕ} {q : Quotation} → Takes s e job q
@@ -168,9 +187,9 @@ module _ (s : State) (f : Fitting s) (events : List Event) (b : AllBytes events)
         let window = grows s f events b j .window in
         let r = as-quoted (a .stands) in
         let h : accepted (quoteIn t job (r .0) .answer .refusal) ≡ true = rw (← (r .1)) (a .accepted) in
-        let p = passed (t .head) (t .pool) (t .directory) (r .0) job h in
-        let told = asked (t .head) (t .pool) (t .directory) (r .0) job h in
-        let few = chunks-few (t .head) (t .pool) (t .directory) (r .0) job h in
+        let p = passed (t .head) (t .pool) (t .directory) (t .index) (r .0) job h in
+        let told = asked (t .head) (t .pool) (t .directory) (t .index) (r .0) job h in
+        let few = chunks-few (t .head) (t .pool) (t .directory) (t .index) (r .0) job h in
         record {
           allowed = subst (λ v. windowAllowed v ≡ true) window (p .window);
           memory = p .storeMemory;
@@ -205,9 +224,15 @@ module _ (s : State) (f : Fitting s) (events : List Event) (b : AllBytes events)
           numbers = rw (g .1 .held) (numbers ∙ sym (numbers-grown next (g .0) cs had));
         }
 
--- a fresh head fits any pool and directory
+-- a fresh head and a fresh index fit any pool and directory
 pub start-fits : (w : ℕ) (pool directory : List ℕ) → Fitting (start w pool directory)
-start-fits w pool directory = fresh-fits w pool directory
+unfolding chunksFrom lengthAllowed freshIndex
+start-fits w pool directory =
+    record {
+      head = fresh-fits w pool directory;
+      indexLength = eq-eqb _ _ (length-replicate (chains + entries directory) none);
+      indexed = fresh-meets (entries directory);
+    }
 
 -- what a store that started fresh holds before each place
 pub standing : (w : ℕ) (pool directory : List ℕ) (events : List Event) → AllBytes events → (i : ℕ)

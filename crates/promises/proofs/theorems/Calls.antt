@@ -23,6 +23,8 @@ use Rattle.promises.proofs.theorems.Saving.{saves}
 use Rattle.promises.proofs.theorems.GivesBack.{gives-back}
 use Rattle.promises.proofs.theorems.SeveralFields.{several-fields}
 use Rattle.promises.proofs.theorems.Promise.{promise}
+use Rattle.promises.specs.IndexStays.{NotIndex}
+use Rattle.promises.proofs.theorems.IndexStays.{index-stays}
 use Rattle.numbers.specs.Storing.{headOf, headNumbers, countsOf}
 use Rattle.hirunvel.specs.Storing.{StoreQuotation, storeOpened, storeQuoted, storeTaken}
 use Rattle.hirunvel.specs.Rebuilding.{jobRebuilt}
@@ -31,7 +33,7 @@ use Rattle.promises.specs.Calls.{TakenCall, AskedCall, recipeOf, chargeO
 
 -- a store's state as a C program keeps it
 abbrev pub memoryOf : State → Memory
-memoryOf s = record { head = headNumbers (s .head); pool = s .pool; directory = s .directory }
+memoryOf s = record { head = headNumbers (s .head); pool = s .pool; directory = s .directory; index = s .index }
 
 -- a quotation as a C program gets it
 abbrev pub numbersOf : Quotation → StoreQuotation
@@ -64,18 +66,18 @@ call-leaves s reading = refl
 call-leaves s (taking job recipe) = by-test (history.accepts s (taking job recipe)) refl
   where
     same : history.accepts s (taking job recipe) ≡ accepted (quoteIn s job recipe .answer .refusal)
-    same = ap accepted (same-refusal (s .head) (s .pool) (s .directory) recipe job)
+    same = ap accepted (same-refusal (s .head) (s .pool) (s .directory) (s .index) recipe job)
 
     by-test : (t : Bool) → history.accepts s (taking job recipe) ≡ t
         → leaves (memoryOf s) (taking job recipe) ≡ memoryOf (history.leaves s (taking job recipe))
     by-test true h = rw h
-    by-test false h = rw (h, untouched (s .head) (s .pool) (s .directory) recipe job (sym same ∙ h) .sameHead)
+    by-test false h = rw (h, untouched (s .head) (s .pool) (s .directory) (s .index) recipe job (sym same ∙ h) .sameHead)
 
 -- "On the same inputs a quote and a take give equal lengths and counts, 0 if refused, equal recipes and the same refusal": of
--- any head, pool and directory
+-- any head, pool, directory and index
 pub quote-tells-called : (m : Memory) (job recipe : List ℕ) → quoteCall m job recipe ≡ toldBy (takeCall m job recipe)
 unfolding storeQuoted storeTaken
-quote-tells-called m job recipe = ap numbersOf (sym (same-quotation (headOf (m .head)) (m .pool) (m .directory) recipe job))
+quote-tells-called m job recipe = ap numbersOf (sym (same-quotation (headOf (m .head)) (m .pool) (m .directory) (m .index) recipe job))
 
 module _ (w : ℕ) (allowed : storeOpened w .refusal ≡ 0) (pool directory : List ℕ) (calls : List Event)
     (b : AllBytes calls) where
@@ -186,3 +188,11 @@ module _ (w : ℕ) (allowed : storeOpened w .refusal ≡ 0) (pool directory : Li
   last-field-called i j l opening fields last old new taken asked kept =
       promised i j l opening (joined fields last .replaced) (joined fields last .changed) (last .kept) old new
       (rw (old-joined opening fields last) at taken) (rw (revision-joined opening fields last) at asked) (last .place) kept
+
+  -- the index is never refused: whatever job is handed in after any of the calls, a quote and a take return neither 11 nor 12
+  pub index-accepted : (j : ℕ) (job recipe : List ℕ)
+      → NotIndex (quoteCall (before m calls j) job recipe .refusal) × NotIndex (takeCall (before m calls j) job recipe .refusal)
+  unfolding storeQuoted storeTaken
+  index-accepted j job recipe =
+      let stays = index-stays w pool directory calls b j in
+      rw (calls-history j) (stays .quotes job recipe, stays .takes job recipe)

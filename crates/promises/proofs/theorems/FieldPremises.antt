@@ -1,13 +1,15 @@
 -- What the premises on several fields are for: where one of these three fails, a charge is over the sum.
 use Prim.Native.Nat.{ℕ, _+_, _*_, _<_}
 use native.Mathlib.Omega.{arith}
-use mathlib.Core.Path.{_≡_, refl}
+use mathlib.Core.Path.{_≡_, refl, ap}
 use mathlib.Core.List.{List, [], _∷_, _++_}
 use lib.ListN.{length, replicate}
 use Rattle.chunker.specs.KeptMaximum.{KeptMaximum}
 use Rattle.promises.specs.History.{Event, start, takeIn, before}
 use Rattle.promises.specs.Fields.{Field, oldJob, revision, ceilingOf}
-use Rattle.promises.proofs.theorems.StarredJobs.{rising, handed, counts, kept-maximum}
+use Rattle.promises.proofs.laws.Untested.{told-by-take}
+use Rattle.promises.proofs.theorems.StarredJobs.{rising, handed, computed, kept-maximum}
+use Rattle.promises.proofs.theorems.Witnesses.{chargeOf, bytes-below}
 
 -- a field whose kept stretch never lines up: no place of it has both windows in it
 abbrev pub field : Field
@@ -25,8 +27,11 @@ charge =
 
 -- is its length
 pub charged-whole : (charge ≡ 265) × (length (revision [] (field ∷ [])) ≡ 265)
-unfolding counts
-charged-whole = (refl, refl)
+unfolding computed
+charged-whole =
+    let old = bytes-below (oldJob [] (field ∷ [])) refl in
+    let new = bytes-below (revision [] (field ∷ [])) refl in
+    (ap chargeOf (told-by-take 1 _ _ events (old, (new, tt)) 1 _ _), refl)
 
 -- "with its two windows inside the stretch": the window before the first 03 is in the changed stretch
 pub window-outside : KeptMaximum 1 (field .changed ++ field .kept) (length (field .changed) + field .place)
@@ -47,5 +52,7 @@ place-outside = (
 pub end-outside :
     takeIn (before (start 1 (replicate 513 0) (replicate 4 0)) (handed (rising ++ (0 ∷ [])) ∷ handed rising ∷ []) 1) rising
     (replicate 8 0) .answer .quoted .«new_bytes» ≡ 256
-unfolding counts
-end-outside = refl
+unfolding computed
+end-outside =
+    let old = bytes-below (rising ++ (0 ∷ [])) refl in
+    ap chargeOf (told-by-take 1 _ _ (handed (rising ++ (0 ∷ [])) ∷ handed rising ∷ []) (old, (bytes-below rising refl, tt)) 1 _ _)

@@ -88,7 +88,7 @@ gives-back w pool directory events b i job q a j h output room =
     (rw (g .window) (told .allowed))
     memory
     (rw numbers (numbers-allowed (number (holds t)) (chunks w job) (told .short)))
-    (g .fitting)
+    (g .fitting .head)
     (rw numbers (numbers-below (t .pool) (t .directory) (t .head .chunks .0) (chunks w job) among))
     (rw bytes room))
     job bytes

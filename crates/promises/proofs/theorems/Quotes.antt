@@ -12,7 +12,7 @@ pub quote-tells : (s : State) (events : List Event) (j : ℕ) (job recipe : List
     → quoteIn (before s events j) job recipe ≡ quotationOf (takeIn (before s events j) job recipe)
 quote-tells s events j job recipe =
     let t = before s events j in
-    sym (same-quotation (t .head) (t .pool) (t .directory) recipe job)
+    sym (same-quotation (t .head) (t .pool) (t .directory) (t .index) recipe job)
 
 -- "while writing only the recipe"
 pub quote-leaves : (s : State) (events : List Event) (j : ℕ) (job recipe : List ℕ) → eventAt events j ≡ quoting job recipe

@@ -3,7 +3,7 @@
 use Prim.Native.Nat.{ℕ, zero, suc, _+_, _-_, _<_, _≤_}
 use native.Mathlib.Omega.{arith}
 use native.Mathlib.Nat.{eq-or-lt-of-le}
-use mathlib.Core.Path.{_≡_, refl, subst}
+use mathlib.Core.Path.{_≡_, refl, subst, ap, _∙_}
 use mathlib.Core.Logic.{⊎-elim}
 use mathlib.Core.List.{List, [], _∷_, _++_, map}
 use lib.IntN.{ℤ, negsuc}
@@ -22,10 +22,12 @@ use Rattle.directory.specs.Layout.{laidOut}
 use Rattle.store.specs.Grounds.{fits, memoryAllowed, recipeAllowed}
 use Rattle.tariff.specs.Tariff.{packets, savingOf}
 use Rattle.survey.specs.Walk.{chunkGround, walk}
-use Rattle.admission.specs.Grounds.{jobAllowed, admissionGround}
-use Rattle.admission.specs.Quote.{quoted, recipeOf}
-use Rattle.admission.specs.Take.{quotationOf, taken}
-use Rattle.promises.specs.History.{Event, taking, State, start, takeIn, leaves, before}
+use Rattle.admission.specs.Grounds.{jobAllowed}
+use Rattle.admission.specs.Quote.{Quotation, recipeOf}
+use Rattle.admission.specs.Take.{quotationOf}
+use Rattle.promises.specs.History.{Event, taking, State, start, takeIn, before, AllBytes}
+use Rattle.promises.proofs.laws.Untested as untested
+use Rattle.promises.proofs.laws.Untested.{ground, quoteOf, takeOf, toldAt, told-by-take}
 
 -- n numbers, counting up from b
 abbrev pub risingFrom : ℕ → ℕ → List ℕ
@@ -49,16 +51,31 @@ handed job = taking job (replicate 8 0)
 abbrev pub storeAfter : ℕ → List (List ℕ) → State
 storeAfter w jobs = before (start w (replicate 32 0) (replicate 16 0)) (map handed jobs) (length jobs)
 
--- what the take of a further job comes to: refusal, recipe, new bytes, repeated bytes and saving
--- (to unfold it is to unfold all that a quote and a take are computed with)
-unfoldable pub counts : ℕ → List (List ℕ) → List ℕ → Refusal × List ℕ × ℕ × ℕ × ℤ
-unfolding
-    lengths windowAllowed chunks chunksFrom same number has gain added repeated numbers laidOut fits memoryAllowed recipeAllowed
-    jobAllowed chunkGround walk packets savingOf admissionGround quoted taken leaves before
-counts w jobs job =
-    let q = quotationOf (takeIn (storeAfter w jobs) job (replicate 8 0)) in
+-- refusal, recipe, new bytes, repeated bytes and saving
+abbrev pub told : Quotation → Refusal × List ℕ × ℕ × ℕ × ℤ
+told q =
     let a = q .answer in
     (a .refusal, recipeOf q, a .«new_bytes», a .«repeated_bytes», a .saving)
+
+-- what the take of a further job comes to
+unfoldable pub counts : ℕ → List (List ℕ) → List ℕ → Refusal × List ℕ × ℕ × ℕ × ℤ
+counts w jobs job = told (quotationOf (takeIn (storeAfter w jobs) job (replicate 8 0)))
+
+-- computed without the test of the index
+-- (to unfold it is to unfold all that a quote and a take are computed with)
+unfoldable pub computed : ℕ → List (List ℕ) → List ℕ → Refusal × List ℕ × ℕ × ℕ × ℤ
+unfolding
+    lengths windowAllowed chunks chunksFrom same number has gain added repeated numbers laidOut fits memoryAllowed recipeAllowed
+    jobAllowed chunkGround walk packets savingOf ground quoteOf takeOf untested.leaves untested.before
+computed w jobs job =
+    told (toldAt w (replicate 32 0) (replicate 16 0) (map handed jobs) (length jobs) job (replicate 8 0))
+
+-- it comes to the same
+pub counts-as : (w : ℕ) (jobs : List (List ℕ)) (job : List ℕ) (expected : Refusal × List ℕ × ℕ × ℕ × ℤ)
+    → AllBytes (map handed jobs) → computed w jobs job ≡ expected → counts w jobs job ≡ expected
+unfolding counts computed
+counts-as w jobs job expected b e =
+    ap told (told-by-take w (replicate 32 0) (replicate 16 0) (map handed jobs) b (length jobs) job (replicate 8 0)) ∙ e
 
 pub data Row : Type 0 where
   -- the lengths of the chunks of a job
@@ -149,7 +166,7 @@ pub premise-not-met : KeptMaximum 2 (9 ∷ 1 ∷ 9 ∷ 2 ∷ 3 ∷ []) 3 → ⊥
 premise-not-met m = omega (arith, m .larger 1 (omega arith) (omega arith))
 
 pub starred : AllHold rows
-unfolding lengths counts
+unfolding lengths computed
 starred =
     refl
     and refl
@@ -160,10 +177,10 @@ starred =
     and refl
     and refl
     and refl
-    and refl
-    and refl
-    and refl
-    and refl
+    and counts-as 2 [] _ _ tt refl
+    and counts-as 2 [] _ _ tt refl
+    and counts-as 2 [] _ _ tt refl
+    and counts-as 2 ((5 ∷ 1 ∷ 1 ∷ 9 ∷ 2 ∷ 3 ∷ 4 ∷ []) ∷ []) _ _ (omega arith) refl
     and premise-met
     and refl
     and premise-not-met
