@@ -8,6 +8,7 @@ pub mod SeveralFields
 pub mod Promise
 pub mod LastField
 pub mod StarredJobs
+pub mod OneChain
 pub mod Windows
 pub mod JustEnoughRoom
 pub mod Witnesses

@@ -1,5 +1,5 @@
 -- What can happen to a store, one thing after another: "Each admission gets the head that the one before handed back,
--- refused or not, with pool and directory as that one left them"; so does it get the index.
+-- refused or not, with pool and directory as that one left them"; the index too.
 use Prim.Native.Nat.{ℕ, zero, suc}
 use mathlib.Core.Path.{_≡_}
 use mathlib.Core.Bool.{Bool, true, false, cond}

@@ -18,7 +18,7 @@ use Rattle.store.specs.Grounds.{fits, memoryAllowed}
 use Rattle.store.specs.Limits.{recipeLimit}
 use Rattle.store.specs.Memory.{chunksFrom}
 use Rattle.store.proofs.laws.grounds.Fitting.{fresh-fits}
-use Rattle.index.specs.Index.{none, freshIndex}
+use Rattle.index.specs.Index.{freshIndex}
 use Rattle.index.specs.Grounds.{lengthAllowed, meets}
 use Rattle.index.proofs.theorems.Entering.{fresh-meets}
 use Rattle.store.proofs.laws.contents.Growth.{Among, grown-keeps, grown-has, grown-append, numbers-grown}
@@ -90,7 +90,7 @@ grows-take s f job recipe b = step (accepts s (taking job recipe)) refl
         record {
           fitting = record {
             head = a .fitting;
-            indexLength = length-allowed-same (s .directory) (s .index) _ _ (a .directoryLength) (a .indexLength) (f .indexLength);
+            indexLength = length-allowed-same (s .directory) (s .index) _ _ (cc) (cc) (f .indexLength);
             indexed = a .indexed;
           };
           window = a .window;
@@ -100,7 +100,7 @@ grows-take s f job recipe b = step (accepts s (taking job recipe)) refl
         }
     step false h =
         let u = untouched (s .head) (s .pool) (s .directory) (s .index) recipe job (sym same ∙ h) in
-        let left = same-state s (leaves s (taking job recipe)) (u .sameHead) (u .samePool) (u .sameDirectory) (u .sameIndex) in
+        let left = same-state s (leaves s (taking job recipe)) (cc) (cc) (cc) (cc) in
         rw left (grows-none s f)
 
 -- what each event adds
@@ -230,7 +230,7 @@ unfolding chunksFrom lengthAllowed freshIndex
 start-fits w pool directory =
     record {
       head = fresh-fits w pool directory;
-      indexLength = eq-eqb _ _ (length-replicate (chains + entries directory) none);
+      indexLength = eq-eqb _ _ (length-replicate (chains + entries directory) _);
       indexed = fresh-meets (entries directory);
     }
 

@@ -1,7 +1,7 @@
--- Quotes and takes that do not test the index. In a list of events from a fresh store they are the same, and examples are computed
--- by them: the test of 1,024 chains is long to compute.
+-- Quotes and takes that do not test the index: in a list of events from a fresh store they tell and leave the same. Examples are
+-- computed by them, since a proof that computes the test of 1,024 chains takes long.
 use Prim.Native.Nat.{ℕ, zero, suc}
-use mathlib.Core.Path.{_≡_, refl, sym, ap, _∙_}
+use mathlib.Core.Path.{_≡_, refl, ap, _∙_}
 use mathlib.Core.Bool.{cond}
 use mathlib.Core.List.{List, [], _∷_}
 use lib.ListN.{length}
@@ -58,7 +58,7 @@ unfoldable pub before : State → List Event → ℕ → State
 before s events zero = s
 before s events (suc j) = leaves (before s events j) (eventAt events j)
 
--- where head and index fit, they are the same
+-- where head and index fit, the test changes nothing
 module _ (s : State) (f : Fitting s) where
   pub same-ground : (job recipe : List ℕ)
       → admissionGround (s .head) (s .pool) (s .directory) (s .index) recipe job ≡ ground s job recipe
@@ -83,7 +83,7 @@ module _ (s : State) (f : Fitting s) where
 abbrev pub toldAt : ℕ → List ℕ → List ℕ → List Event → ℕ → List ℕ → List ℕ → Quotation
 toldAt w pool directory events j job recipe = quoteOf (before (start w pool directory) events j) job recipe
 
--- in such a list they are the same
+-- so it changes nothing in such a list
 module _ (w : ℕ) (pool directory : List ℕ) (events : List Event) (b : AllBytes events) where
   abbrev s : State
   s = start w pool directory

@@ -1,4 +1,4 @@
--- Demands 2 and 3, the ceiling of several fields and the saving, of a C program's calls on one store.
+-- Demands 2 and 3, the ceiling of several fields, the saving and the index, of a C program's calls on one store.
 use Prim.Native.Nat.{ℕ, zero, suc, _≤_, _<_}
 use native.Mathlib.Omega.{arith}
 use mathlib.Core.Path.{_≡_, refl, ap, ap₂, sym, _∙_, subst}

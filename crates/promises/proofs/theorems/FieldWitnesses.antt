@@ -38,7 +38,7 @@ abbrev pub twiceTold : ℕ → List ℕ → Quotation
 twiceTold i job =
     quotationOf (takeIn (before (start 1 (replicate 1038 0) (replicate 16 0)) tightTwice i) job (replicate 8 0))
 
--- without the test of the index
+-- computed without the test of the index
 twice-bytes : AllBytes tightTwice
 twice-bytes = (
   bytes-below (oldJob rising twoBytes) refl,
@@ -120,7 +120,7 @@ labels =
 abbrev pub labelTold : ℕ → List ℕ → Quotation
 labelTold i job = quotationOf (takeIn (before (start 2 (replicate 160 0) (replicate 80 0)) labels i) job (replicate 40 0))
 
--- without the test of the index
+-- computed without the test of the index
 label-bytes : AllBytes labels
 label-bytes =
     let new = bytes-below (revision opening dateAndAddress) refl in

@@ -36,7 +36,7 @@ just-enough =
 abbrev pub refusalWith : (places entries bytes : ℕ) → Refusal
 refusalWith places entries bytes = quoteIn (storeWith entries bytes) shortChunks (replicate places 0) .answer .refusal
 
--- computed without the test of the index
+-- it can be computed without the test of the index
 refusal-as : (places entries bytes : ℕ)
     → refusalWith places entries bytes ≡ quoteOf (storeWith entries bytes) shortChunks (replicate places 0) .answer .refusal
 refusal-as places entries bytes =

@@ -14,7 +14,7 @@ quote-tells s events j job recipe =
     let t = before s events j in
     sym (same-quotation (t .head) (t .pool) (t .directory) (t .index) recipe job)
 
--- "while writing only the recipe"
+-- "while writing only the recipe"; of the index "a quote only reads"
 pub quote-leaves : (s : State) (events : List Event) (j : ℕ) (job recipe : List ℕ) → eventAt events j ≡ quoting job recipe
     → before s events (suc j) ≡ before s events j
 unfolding before leaves

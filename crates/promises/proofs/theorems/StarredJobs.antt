@@ -51,7 +51,7 @@ handed job = taking job (replicate 8 0)
 abbrev pub storeAfter : ℕ → List (List ℕ) → State
 storeAfter w jobs = before (start w (replicate 32 0) (replicate 16 0)) (map handed jobs) (length jobs)
 
--- refusal, recipe, new bytes, repeated bytes and saving
+-- what is told of a job: refusal, recipe, new bytes, repeated bytes and saving
 abbrev pub told : Quotation → Refusal × List ℕ × ℕ × ℕ × ℤ
 told q =
     let a = q .answer in
@@ -61,7 +61,7 @@ told q =
 unfoldable pub counts : ℕ → List (List ℕ) → List ℕ → Refusal × List ℕ × ℕ × ℕ × ℤ
 counts w jobs job = told (quotationOf (takeIn (storeAfter w jobs) job (replicate 8 0)))
 
--- computed without the test of the index
+-- the same without the test of the index
 -- (to unfold it is to unfold all that a quote and a take are computed with)
 unfoldable pub computed : ℕ → List (List ℕ) → List ℕ → Refusal × List ℕ × ℕ × ℕ × ℤ
 unfolding
@@ -70,7 +70,7 @@ unfolding
 computed w jobs job =
     told (toldAt w (replicate 32 0) (replicate 16 0) (map handed jobs) (length jobs) job (replicate 8 0))
 
--- it comes to the same
+-- so the counts can be computed without it
 pub counts-as : (w : ℕ) (jobs : List (List ℕ)) (job : List ℕ) (expected : Refusal × List ℕ × ℕ × ℕ × ℤ)
     → AllBytes (map handed jobs) → computed w jobs job ≡ expected → counts w jobs job ≡ expected
 unfolding counts computed

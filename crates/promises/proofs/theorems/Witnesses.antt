@@ -72,11 +72,12 @@ newQuote = quoteIn (pairAt 1) newLabel (replicate 8 0)
 abbrev pub newTake : Quotation
 newTake = quotationOf (takeIn (pairAt 2) newLabel (replicate 8 0))
 
--- without the test of the index
-pub pair-bytes : AllBytes pair
+-- the jobs are bytes
+pair-bytes : AllBytes pair
 pair-bytes = omega arith
 
-abbrev pub computedAt : ℕ → List ℕ → Quotation
+-- so what is told of them can be computed without the test of the index
+abbrev computedAt : ℕ → List ℕ → Quotation
 computedAt i job = toldAt 2 (replicate 32 0) (replicate 16 0) pair i job (replicate 8 0)
 
 old-take : oldTake ≡ computedAt 0 oldLabel
@@ -162,7 +163,7 @@ tightOld = quotationOf (takeIn (tightAt 0) (rising ++ (1 ∷ 2 ∷ 0 ∷ [])) (r
 abbrev pub tightNew : Quotation
 tightNew = quoteIn (tightAt 1) (rising ++ (3 ∷ 1 ∷ 2 ∷ 0 ∷ [])) (replicate 8 0)
 
--- without the test of the index
+-- computed without the test of the index
 tight-bytes : AllBytes tightPair
 tight-bytes = (
   bytes-below (oldJob rising (tightField ∷ [])) refl,
