@@ -2,21 +2,13 @@
 
 use crate::model::index::TABLE;
 use std::fs;
-use std::io::ErrorKind;
 
 /// Where the stored output is, from the repository's root.
 const PRINTED: &str = "crates/gear_table/stdout";
 
-/// Compares the stored output, where there is one, with the table: an entry a line.
+/// Compares the stored output with the table: one entry per line.
 pub fn run() -> Result<(), String> {
-    let printed = match fs::read_to_string(PRINTED) {
-        Ok(printed) => printed,
-        Err(fault) if fault.kind() == ErrorKind::NotFound => {
-            println!("printed table: there is no {PRINTED}");
-            return Ok(());
-        }
-        Err(fault) => return Err(format!("{PRINTED}: {fault}")),
-    };
+    let printed = fs::read_to_string(PRINTED).map_err(|fault| format!("{PRINTED}: {fault}"))?;
     let expected: Vec<String> = TABLE.iter().map(|entry| format!("{entry:08X}\n")).collect();
     let lines: Vec<&str> = printed.split_inclusive('\n').collect();
     if lines == expected {

@@ -9,7 +9,7 @@ use Rattle.refusal.specs.declared.Refusal.{Refusal}
 use Rattle.refusal.specs.declared.Refusal.the-variants.{IndexLength, Index}
 use Rattle.gear.specs.Gear.{chains}
 use Rattle.directory.specs.Entry.{entries}
-use Rattle.index.specs.internal.Along.{alongAll}
+use Rattle.index.specs.Along.{alongAll}
 
 -- "11 if the index has another length" does not hold
 unfoldable pub lengthAllowed : List ℕ → List ℕ → Bool

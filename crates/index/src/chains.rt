@@ -8,8 +8,8 @@ ghost use Rattle.store.specs.Memory.{chunkAt, contents};
 ghost use Rattle.store.specs.internal.EntriesIn.{EntriesIn};
 ghost use Rattle.index.specs.Index.{headAt};
 ghost use Rattle.index.specs.Grounds.{meets};
-ghost use Rattle.index.specs.internal.Along.{along};
-ghost use Rattle.index.specs.internal.Ordered.{noNumber};
+ghost use Rattle.index.specs.Along.{along};
+ghost use Rattle.index.specs.Ordered.{noNumber};
 use crate::HEADS;
 use crate::NONE;
 

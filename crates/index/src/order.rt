@@ -8,7 +8,7 @@ ghost use Rattle.gear.specs.Gear.{chains};
 ghost use Rattle.store.specs.Contents.{same};
 ghost use Rattle.store.specs.Grounds.{fits};
 ghost use Rattle.store.specs.Memory.{contents};
-ghost use Rattle.index.specs.internal.Ordered.{noNumber, asLink, ordered};
+ghost use Rattle.index.specs.Ordered.{noNumber, asLink, ordered};
 use crate::HEADS;
 use crate::NONE;
 use store::Head;

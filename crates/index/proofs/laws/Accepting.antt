@@ -10,7 +10,7 @@ use lib.ListN.{length, getD}
 use borrow.Author.Tests.{eqb-true, eqb-false, eq-eqb, lt-ltb, le-ltb, ltb-true}
 use Rattle.gear.specs.Gear.{chains}
 use Rattle.index.specs.Index.{headAt, chainAt, Trail, once, times}
-use Rattle.index.specs.internal.Along.{belongs, alongAll}
+use Rattle.index.specs.Along.{belongs, alongAll}
 use Rattle.index.specs.Grounds.{meets}
 use Rattle.gear.proofs.laws.Sums.{chain-below}
 use Rattle.index.proofs.laws.Counting.{sumTo, sum-le, sum-tight, sum-add, sum-ones, length-times}

@@ -12,7 +12,7 @@ use lib.Seq.{getD-set-same, getD-set-other, getD-append-seam}
 use borrow.Author.Tests.{eqb-true, eqb-false, eq-eqb, lt-ltb, le-ltb, ltb-true, ltb-false}
 use Rattle.gear.specs.Gear.{chains, chain}
 use Rattle.index.specs.Index.{none, headAt, linkAt, chainAt, Trail, once, times, freshIndex, enter, enterAll}
-use Rattle.index.specs.internal.Along.{belongs}
+use Rattle.index.specs.Along.{belongs}
 use Rattle.gear.proofs.laws.Sums.{chain-below}
 use Rattle.index.proofs.laws.Accepting.{AllMet, belongs-below, belonging}
 

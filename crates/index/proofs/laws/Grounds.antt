@@ -19,7 +19,7 @@ use Rattle.store.specs.internal.EntriesIn.{EntriesIn}
 use Rattle.store.proofs.laws.Memory.{contents-length}
 use Rattle.store.proofs.laws.grounds.Fitting.{fits-facts, entries-in}
 use Rattle.index.specs.Grounds.{lengthAllowed, indexLengthGround, meets, indexGround}
-use Rattle.index.specs.internal.Ordered.{noNumber, ordered}
+use Rattle.index.specs.Ordered.{noNumber, ordered}
 use Rattle.index.proofs.laws.Accepting.{met-meets}
 use Rattle.index.proofs.laws.Ordering.{ordered-met}
 

@@ -14,7 +14,7 @@ use Rattle.gear.specs.Gear.{chains, chain}
 use Rattle.gear.proofs.laws.Sums.{chain-below}
 use Rattle.store.proofs.laws.contents.Sameness.{same-equal, equal-same}
 use Rattle.index.specs.Index.{none, headAt, linkAt, freshIndex, enter, enterAll}
-use Rattle.index.specs.internal.Ordered.{noNumber, asLink, passes, ordered}
+use Rattle.index.specs.Ordered.{noNumber, asLink, passes, ordered}
 use Rattle.index.proofs.laws.Accepting.{AllMet}
 use Rattle.index.proofs.laws.Entering.{none-met, enter-met, link-new, link-old, length-enter}
 

@@ -11,7 +11,7 @@ use borrow.Author.Tests.{eqb-true, eq-eqb, lt-ltb, ltb-true}
 use Rattle.store.specs.Contents.{same, number, has}
 use Rattle.gear.specs.Gear.{chain}
 use Rattle.index.specs.Index.{headAt, linkAt, chainAt, Trail, once, times}
-use Rattle.index.specs.internal.Along.{belongs, seek, search}
+use Rattle.index.specs.Along.{belongs, seek, search}
 use Rattle.gear.proofs.laws.Sums.{chain-below}
 use Rattle.store.proofs.laws.contents.Sameness.{equal-same}
 use Rattle.store.proofs.laws.contents.Numbering.{number-below, number-next, chunk-at-number}

@@ -8,7 +8,7 @@ use lib.Dec.{eqb}
 use lib.ListN.{length}
 use borrow.Author.Tests.{eqb-true, eqb-false, eq-eqb, ne-eqb}
 use Rattle.index.specs.Index.{none, linkAt, Trail, once, times}
-use Rattle.index.specs.internal.Along.{belongs, along}
+use Rattle.index.specs.Along.{belongs, along}
 use Rattle.index.proofs.laws.Counting.{times-first}
 
 -- the numbers of a list are those of chunks of the chain

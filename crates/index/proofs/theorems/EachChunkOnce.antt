@@ -7,7 +7,7 @@ use mathlib.Core.Bool.{Bool, true, false}
 use mathlib.Core.List.{List}
 use borrow.Author.Tests.{eq-eqb}
 use Rattle.index.specs.Index.{chainAt, once, times, Meets}
-use Rattle.index.specs.internal.Along.{belongs}
+use Rattle.index.specs.Along.{belongs}
 use Rattle.index.specs.Grounds.{meets}
 use Rattle.index.proofs.laws.Counting.{once-pos}
 use Rattle.index.proofs.laws.Accepting.{AllMet, belongs-below, below-belongs, meets-met, met-meets}

@@ -7,7 +7,7 @@ use mathlib.Core.List.{List, [], _++_}
 use lib.ListN.{length, length-append}
 use Rattle.gear.specs.Gear.{chains}
 use Rattle.index.specs.Index.{freshIndex, enterAll}
-use Rattle.index.specs.internal.Ordered.{noNumber}
+use Rattle.index.specs.Ordered.{noNumber}
 use Rattle.index.specs.Grounds.{meets}
 use Rattle.index.proofs.laws.Accepting.{meets-met, met-meets}
 use Rattle.index.proofs.laws.Entering.{fresh-met, enter-all-met}

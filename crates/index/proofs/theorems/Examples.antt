@@ -7,8 +7,8 @@ use lib.ListN.{set}
 use Rattle.gear.specs.Gear.{next, entriesFrom, table, sumFrom, chain}
 use Rattle.store.specs.Contents.{same}
 use Rattle.index.specs.Index.{none, freshIndex, enter, enterAll}
-use Rattle.index.specs.internal.Along.{belongs, along, alongAll, seek, search}
-use Rattle.index.specs.internal.Ordered.{asLink, passes, ordered}
+use Rattle.index.specs.Along.{belongs, along, alongAll, seek, search}
+use Rattle.index.specs.Ordered.{asLink, passes, ordered}
 use Rattle.index.specs.Grounds.{meets}
 
 -- the first two are of chain 177, the last of chain 16

@@ -7,7 +7,7 @@ use mathlib.Core.List.{List, []}
 use lib.ListN.{length, length-replicate}
 use Rattle.gear.specs.Gear.{chains}
 use Rattle.index.specs.Index.{none, freshIndex, enterAll}
-use Rattle.index.specs.internal.Ordered.{noNumber, ordered}
+use Rattle.index.specs.Ordered.{noNumber, ordered}
 use Rattle.index.specs.Grounds.{meets}
 use Rattle.index.proofs.laws.Accepting.{met-meets}
 use Rattle.index.proofs.laws.Ordering.{ordered-met, fresh-ordered, enter-all-ordered}

@@ -4,7 +4,7 @@ use mathlib.Core.Path.{_≡_}
 use mathlib.Core.Bool.{true}
 use mathlib.Core.List.{List}
 use Rattle.store.specs.Contents.{number}
-use Rattle.index.specs.internal.Along.{search}
+use Rattle.index.specs.Along.{search}
 use Rattle.index.specs.Grounds.{meets}
 use Rattle.index.proofs.laws.Accepting.{meets-met}
 use Rattle.index.proofs.laws.Searching.{search-number}

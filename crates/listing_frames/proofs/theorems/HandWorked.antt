@@ -16,7 +16,7 @@ use Rattle.store.specs.Memory.{chunksFrom}
 use Rattle.store.specs.Contents.{same, number, has, gain, added, numbers}
 use Rattle.index.specs.Index.{freshIndex}
 use Rattle.index.specs.Grounds.{lengthAllowed, meets}
-use Rattle.index.specs.internal.Along.{belongs, along, alongAll}
+use Rattle.index.specs.Along.{belongs, along, alongAll}
 use Rattle.frame_text.specs.Frame.{hex, frame}
 use Rattle.listing_frames.specs.Frames.{chunkFrames, refusedFrame, listing}
 

@@ -18,7 +18,7 @@ use Rattle.store.proofs.laws.contents.Sameness.{equal-same, same-other}
 use Rattle.store.proofs.laws.Memory.{contents-length, entry-length, entry-byte}
 use Rattle.index.specs.Index.{none, headAt, linkAt}
 use Rattle.index.specs.Grounds.{meets}
-use Rattle.index.specs.internal.Along.{seek, search}
+use Rattle.index.specs.Along.{seek, search}
 use Rattle.index.proofs.theorems.PlainSearch.{searched}
 use Rattle.search.specs.internal.Comparing.{Differs, EqualBlocks}
 

@@ -5,7 +5,7 @@ use mathlib.Core.Path.{_≡_, refl}
 use borrow.Author.Needs.{needs}
 use Rattle.gear.specs.Gear.{chains}
 use Rattle.store.specs.Memory.{contents}
-use Rattle.index.specs.internal.Along.{alongAll}
+use Rattle.index.specs.Along.{alongAll}
 use Rattle.index.proofs.laws.chains.Stepping.{chains-begun, chains-more, chains-all}
 use Rattle.index.proofs.chains.along_all.Statement.{statement}
 use Rattle.index.proofs.chains.along_all.Tie as tie

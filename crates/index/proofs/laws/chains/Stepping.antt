@@ -15,7 +15,7 @@ use Rattle.store.specs.Memory.{chunkAt, contents}
 use Rattle.store.proofs.laws.Memory.{contents-length}
 use Rattle.store.proofs.laws.ChunkOfNumber.{entry-at}
 use Rattle.index.specs.Index.{none, headAt, linkAt, chainAt}
-use Rattle.index.specs.internal.Along.{belongs, along, alongAll}
+use Rattle.index.specs.Along.{belongs, along, alongAll}
 use Rattle.index.specs.Grounds.{meets}
 
 -- `left` steps are left at the number `at`

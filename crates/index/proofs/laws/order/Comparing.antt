@@ -11,7 +11,7 @@ use lib.Seq.{take-suc, take-all, length-take-le}
 use borrow.Author.Tests.{eq-eqb, ne-eqb}
 use Rattle.gear.specs.Gear.{chains}
 use Rattle.store.specs.Contents.{same}
-use Rattle.index.specs.internal.Ordered.{asLink}
+use Rattle.index.specs.Ordered.{asLink}
 use Rattle.index.proofs.laws.Ordering.{links-at}
 
 -- the test of lists that each have one more

@@ -21,7 +21,7 @@ use Rattle.store.specs.Grounds.{fits}
 use Rattle.store.specs.Memory.{chunkAt, chunksFrom, contents}
 use Rattle.store.proofs.laws.grounds.Fitting.{fits-facts}
 use Rattle.index.specs.Index.{linkAt}
-use Rattle.index.specs.internal.Ordered.{noNumber, asLink, passes, ordered}
+use Rattle.index.specs.Ordered.{noNumber, asLink, passes, ordered}
 
 -- the chunks before `number` are passed, and their bytes are the first `end` of the pool, whose sum is `before`
 pub record Passing (pool directory index : List ℕ) (count : ℕ) (heads : List ℕ) (before end number : ℕ) : Type 0 where

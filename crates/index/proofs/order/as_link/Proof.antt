@@ -1,6 +1,6 @@
 -- `index::order::as_link` meets its contract.
 use borrow.Author.Tests.{eq-eqb, ne-eqb}
-use Rattle.index.specs.internal.Ordered.{noNumber, asLink}
+use Rattle.index.specs.Ordered.{noNumber, asLink}
 use Rattle.index.proofs.order.as_link.Statement.{statement}
 use Rattle.index.proofs.order.as_link.Tie as tie
 

@@ -1,4 +1,5 @@
--- The test of ground 12 by steps along the chains, and the search along one.
+-- The test of ground 12 by steps along the chains, and the search along one. That they are what was asked: theorems/EachChunkOnce
+-- and theorems/PlainSearch.
 use Prim.Native.Nat.{ℕ, zero, suc, min}
 use mathlib.Core.Bool.{Bool, cond, _&&_}
 use mathlib.Core.List.{List, []}
