@@ -138,8 +138,8 @@ uint32_t hirunvel_scanner_finish(uint32_t scanner[4], uint64_t *count);
  * HIRUNVEL_INDEX holds unless the chains, each followed from its head to its end, meet every chunk of the store just
  * once, on the chain of its own sum, and nothing else. The order of the chunks on a chain does not matter, and links of
  * entries that are not in use are not read. Every quote and take tests this, which takes time in proportion to the
- * number of chunks in the store, about 10 nanoseconds a chunk, however short the job is. So a small job into a large
- * store is slower than a linear search of the store for the job's few chunks would be.
+ * number of chunks in the store, about 10 nanoseconds a chunk, however short the job is. So a job of fewer than some
+ * 20 to 45 chunks is slower than a linear search of the store for them would be.
  *
  * A chunk has at least window + 1 bytes, the last of a job at least 1. So a job of n bytes has at most
  * n / (window + 1) + 1 chunks. This room is enough for any job of n bytes: that many recipe numbers, that many unused
