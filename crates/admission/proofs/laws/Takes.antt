@@ -15,6 +15,7 @@ use Rattle.store.specs.Grounds.{fits}
 use Rattle.store.specs.Memory.{contents}
 use Rattle.store.proofs.laws.contents.Additions.{grown-added}
 use Rattle.index.specs.Grounds.{meets}
+use Rattle.storing.specs.Storing.{indexWith}
 use Rattle.storing.proofs.laws.Adding.{adding-lengths, adding-fits, adding-holds}
 use Rattle.storing.proofs.laws.Indexing.{adding-index-length, adding-meets}
 use Rattle.index.proofs.laws.Grounds.{length-fits}
@@ -35,6 +36,7 @@ pub record Added (head : Head) (pool directory index job : List ℕ) (t : Taking
   pub directoryLength : length (t .directory) ≡ length directory
   pub indexLength : length (t .index) ≡ length index
   pub indexed : meets (t .index) (contents (t .pool) (t .directory) (t .answer .head .chunks .0)) ≡ true
+  pub entered : t .index ≡ indexWith head index (newOf head pool directory job)
 
 -- a refused one leaves the store
 pub record Untouched (head : Head) (pool directory index : List ℕ) (t : Taking) : Type 0 where
@@ -89,4 +91,5 @@ module _ (head : Head) (pool directory index recipe job : List ℕ) where
           indexLength = adding-index-length head index new;
           indexed = rw (adding-holds head pool directory new (p .fitting) bytes-room entries-room allowed)
               (adding-meets head pool directory index new (p .indexed) (length-fits directory index (p .indexLength)) (begun p .directoryLength) entries-room);
+          entered = refl;
         })

@@ -13,14 +13,17 @@ use Rattle.chunker.specs.Scanner.{windowAllowed}
 use Rattle.chunker.specs.Chunks.{chunks}
 use Rattle.gear.specs.Gear.{chains}
 use Rattle.directory.specs.Entry.{entries}
-use Rattle.store.specs.Contents.{number, grown}
+use Rattle.store.specs.Contents.{number, grown, added}
 use Rattle.store.specs.Grounds.{fits, memoryAllowed}
 use Rattle.store.specs.Limits.{recipeLimit}
 use Rattle.store.specs.Memory.{chunksFrom}
+use Rattle.store.proofs.laws.Memory.{contents-length}
 use Rattle.store.proofs.laws.grounds.Fitting.{fresh-fits}
-use Rattle.index.specs.Index.{freshIndex}
+use Rattle.index.specs.Index.{freshIndex, enterAll}
 use Rattle.index.specs.Grounds.{lengthAllowed, meets}
+use Rattle.index.proofs.laws.Entering.{enter-all-append}
 use Rattle.index.proofs.theorems.Entering.{fresh-meets}
+use Rattle.store.proofs.laws.contents.Additions.{grown-added}
 use Rattle.store.proofs.laws.contents.Growth.{Among, grown-keeps, grown-has, grown-append, numbers-grown}
 use Rattle.admission.specs.Quote.{Quotation, recipeOf}
 use Rattle.admission.proofs.laws.Asked.{Asked, passed, asked, chunks-few}
@@ -46,11 +49,21 @@ pub record Grows (s t : State) (cs : List (List ℕ)) : Type 0 where
   pub held : holds t ≡ grown (holds s) cs
   pub poolLength : length (t .pool) ≡ length (s .pool)
   pub directoryLength : length (t .directory) ≡ length (s .directory)
+  -- an index that is that of the store's chunks, entered one after another into some first one, stays so
+  pub inOrder : (first : List ℕ) → s .index ≡ enterAll first 0 (holds s) → t .index ≡ enterAll first 0 (holds t)
 
 -- no chunks change nothing
 grows-none : (s : State) → Fitting s → Grows s s []
 unfolding grown
-grows-none s f = record { fitting = f; window = refl; held = refl; poolLength = refl; directoryLength = refl }
+grows-none s f =
+    record {
+      fitting = f;
+      window = refl;
+      held = refl;
+      poolLength = refl;
+      directoryLength = refl;
+      inOrder = λ first e. e;
+    }
 
 -- chunks are added one list after the other
 grows-then : (s t u : State) (cs ds : List (List ℕ)) → Grows s t cs → Grows t u ds → Grows s u (cs ++ ds)
@@ -61,6 +74,7 @@ grows-then s t u cs ds g h =
       held = rw (grown-append (holds s) cs ds, ← (g .held)) (h .held);
       poolLength = h .poolLength ∙ g .poolLength;
       directoryLength = h .directoryLength ∙ g .directoryLength;
+      inOrder = λ first e. h .inOrder first (g .inOrder first e);
     }
 
 -- states with the same head, pool, directory and index
@@ -73,6 +87,13 @@ length-allowed-same : (directory index directory′ index′ : List ℕ) → len
     → length index′ ≡ length index → lengthAllowed directory index ≡ true → lengthAllowed directory′ index′ ≡ true
 unfolding lengthAllowed
 length-allowed-same directory index directory′ index′ d i h = rw (d, i) h
+
+-- the next chunks, entered after those that the store holds
+entered-after : (first index : List ℕ) (held cs : List (List ℕ)) (n : ℕ) → length held ≡ n
+    → index ≡ enterAll first 0 held → enterAll index n (added held cs) ≡ enterAll first 0 (grown held cs)
+entered-after first index held cs n count e =
+    let after : 0 + length held ≡ n = omega arith in
+    rw (grown-added held cs, e, enter-all-append first 0 held (added held cs), after)
 
 -- a take adds the chunks of its job, or nothing
 grows-take : (s : State) → Fitting s → (job recipe : List ℕ) → Bytes job
@@ -97,6 +118,11 @@ grows-take s f job recipe b = step (accepts s (taking job recipe)) refl
           held = a .held;
           poolLength = a .poolLength;
           directoryLength = a .directoryLength;
+          inOrder = λ first e.
+              rw (a .held)
+              (a .entered
+              ∙ entered-after first (s .index) (holds s) (chunks (s .head .window) job) (s .head .chunks .0)
+              (contents-length (s .pool) (s .directory) 0 (s .head .chunks .0)) e);
         }
     step false h =
         let u = untouched (s .head) (s .pool) (s .directory) (s .index) recipe job (sym same ∙ h) in
@@ -233,6 +259,14 @@ start-fits w pool directory =
       indexLength = eq-eqb _ _ (length-replicate (chains + entries directory) _);
       indexed = fresh-meets (entries directory);
     }
+
+-- the index of a store that started fresh is that of its chunks, entered in order
+pub index-in-order : (w : ℕ) (pool directory : List ℕ) (events : List Event) → AllBytes events → (i : ℕ)
+    → before (start w pool directory) events i .index
+    ≡ enterAll (freshIndex (entries directory)) 0 (holds (before (start w pool directory) events i))
+unfolding chunksFrom enterAll
+index-in-order w pool directory events b i =
+    grows (start w pool directory) (start-fits w pool directory) events b i .inOrder (freshIndex (entries directory)) refl
 
 -- what a store that started fresh holds before each place
 pub standing : (w : ℕ) (pool directory : List ℕ) (events : List Event) → AllBytes events → (i : ℕ)

@@ -1,4 +1,5 @@
--- Over a list of events the index meets every chunk of the store just once, and no job is refused by the grounds 11 and 12.
+-- Over a list of events the index meets every chunk of the store just once, the pass in order accepts it, and no job is refused
+-- by the grounds 11 and 12.
 use Prim.Native.Nat.{ℕ, suc, _+_, _≤_}
 use native.Mathlib.Omega.{arith}
 use mathlib.Core.Path.{_≡_, refl}
@@ -13,10 +14,16 @@ use Rattle.refusal.specs.declared.Refusal.{Refusal}
 use Rattle.refusal.specs.declared.Refusal.the-variants.{Window, JobLength, MemoryLimit, Head, RecipeFull, DirectoryFull, PoolFull, IndexLength, Index}
 use Rattle.chunker.specs.Scanner.{windowAllowed}
 use Rattle.chunker.specs.Chunks.{total}
+use Rattle.directory.specs.Entry.{entries}
 use Rattle.store.specs.Contents.{has, gain}
+use Rattle.store.specs.Limits.{directoryLimit}
 use Rattle.store.specs.Grounds.{memoryAllowed, recipeAllowed, fits}
+use Rattle.store.proofs.laws.Memory.{contents-length}
+use Rattle.store.proofs.laws.grounds.Fitting.{fits-facts}
+use Rattle.index.specs.Ordered.{ordered}
 use Rattle.index.specs.Grounds.{lengthAllowed}
 use Rattle.index.proofs.theorems.EachChunkOnce.{test}
+use Rattle.index.proofs.theorems.OrderedPass.{taken-ordered}
 use Rattle.survey.specs.Walk.{Room, chunkGround, walk}
 use Rattle.admission.specs.Grounds.{jobAllowed, admissionGround}
 use Rattle.admission.specs.Take.{quotationOf}
@@ -25,7 +32,7 @@ use Rattle.admission.proofs.laws.Refusals.{quote-refusal}
 use Rattle.admission.proofs.theorems.QuoteAndTake.{same-refusal}
 use Rattle.promises.specs.History.{Event, State, start, holds, quoteIn, takeIn, before, AllBytes}
 use Rattle.promises.specs.IndexStays.{NotIndex, IndexStays}
-use Rattle.promises.proofs.laws.Events.{Fitting, grows, start-fits}
+use Rattle.promises.proofs.laws.Events.{Fitting, grows, start-fits, index-in-order}
 
 -- the grounds of a chunk by their tests
 tests-most : (place entry bytes : Bool)
@@ -114,6 +121,23 @@ index-stays w pool directory events b j =
     record {
       sized = eqb-true _ _ (f .indexLength);
       met = test (t .index) (holds t) .0 (f .indexed);
+      inOrder = index-in-order w pool directory events b j;
       quotes = λ job recipe. not-index _ (quote-most t f job recipe);
       takes = λ job recipe. not-index _ (take-most t f job recipe);
     }
+
+-- the pass in order accepts the index at every place, so the walk along the chains is never needed; a directory over the limit is
+-- refused by ground 4, before the index is tested
+pub stays-ordered : (w : ℕ) (pool directory : List ℕ) (events : List Event) → AllBytes events → length directory ≤ directoryLimit
+    → (j : ℕ)
+    → let t = before (start w pool directory) events j in
+    ordered (t .index) (holds t) ≡ true
+stays-ordered w pool directory events b limit j =
+    let s = start w pool directory in
+    let t = before s events j in
+    let g = grows s (start-fits w pool directory) events b j in
+    let facts = fits-facts (t .head) (t .pool) (t .directory) (g .fitting .head) in
+    let count = contents-length (t .pool) (t .directory) 0 (t .head .chunks .0) in
+    let room : length (holds t) ≤ entries directory = rw count (rw (g .directoryLength) at (facts .counted)) in
+    rw (index-in-order w pool directory events b j)
+    (taken-ordered (entries directory) (holds t) room (omega (arith, room, limit)))
