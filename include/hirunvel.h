@@ -131,15 +131,17 @@ uint32_t hirunvel_scanner_finish(uint32_t scanner[4], uint64_t *count);
  *
  * To make the index of a fresh store, set each of its bytes to FF, as memset(index, 0xFF, sizeof index) does for an
  * array. Hand it on from call to call, as head, pool and directory: a take enters each new chunk at the front of its
- * chain. A store that was opened fresh with such an index, and that only takes have changed since, is never refused by
- * HIRUNVEL_INDEX_LENGTH or HIRUNVEL_INDEX. To make an index for a store that has none, start from a fresh one and enter
- * the chunks in any order: for each n, index[HIRUNVEL_CHAINS + n] gets what the head of its chain holds, and the head n.
+ * chain. HIRUNVEL_INDEX_LENGTH and HIRUNVEL_INDEX are never reported of a store that was opened fresh with such an
+ * index and that only takes have changed since. To make an index for a store that has none, start from a fresh one and
+ * enter the chunks: for each n, index[HIRUNVEL_CHAINS + n] gets what the head of its chain holds, and the head n. Any
+ * order will do; the index is tested faster if they are entered in the order of their numbers, as takes do.
  *
  * HIRUNVEL_INDEX holds unless the chains, each followed from its head to its end, meet every chunk of the store just
- * once, on the chain of its own sum, and nothing else. The order of the chunks on a chain does not matter, and links of
- * entries that are not in use are not read. Every quote and take tests this, which takes time in proportion to the
- * number of chunks in the store, about 10 nanoseconds a chunk, however short the job is. So a job of fewer than some
- * 20 to 45 chunks is slower than a linear search of the store for them would be.
+ * once, on the chain of its own sum, and nothing else. The order of the chunks on a chain does not matter, and links
+ * of entries that are not in use are not read. Every quote and take tests this, which takes time in proportion to the
+ * number of chunks in the store, however short the job is: about 10 nanoseconds a chunk, or up to 50 if the chunks were
+ * not entered in the order of their numbers. So a job of fewer than some 20 to 45 chunks is slower than a linear search
+ * of the store for them would be.
  *
  * A chunk has at least window + 1 bytes, the last of a job at least 1. So a job of n bytes has at most
  * n / (window + 1) + 1 chunks. This room is enough for any job of n bytes: that many recipe numbers, that many unused

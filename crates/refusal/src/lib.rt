@@ -1,8 +1,8 @@
 ghost use mathlib.Core.Path.{_≡_};
 ghost use Rattle.refusal.specs.Number.{numberOf, accepted};
 
-// The grounds for turning work away, in the paper's checking order. The first that holds is
-// reported; `Accepted` says that none does.
+// The grounds for turning work away, by their numbers. The first in the paper's checking order that
+// holds is reported; `Accepted` says that none does.
 pub enum Refusal {
     Accepted,
     // 1: the window is not 1 to 64.
