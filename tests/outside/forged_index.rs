@@ -19,7 +19,7 @@ const ACCEPTED_KINDS: usize = 3;
 
 /// The kinds.
 pub const ALL: [Kind; KINDS] = [
-    ("as takes leave it", ACCEPTED, as_takes_leave_it),
+    ("as takes leave them", ACCEPTED, as_takes_leave_it),
     ("in another order", ACCEPTED, in_another_order),
     ("with any unused links", ACCEPTED, any_unused_links),
     ("too short", INDEX_LENGTH, too_short),
