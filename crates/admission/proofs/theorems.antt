@@ -3,3 +3,4 @@ pub mod ChunkCount
 pub mod Room
 pub mod LeftAlone
 pub mod Saving
+pub mod CutCounts

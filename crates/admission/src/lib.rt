@@ -9,21 +9,24 @@ ghost use Rattle.admission.specs.internal.Answers.{answered, headAfter};
 
 mod grounds;
 
+use cut_counts::CutCounts;
 use refusal::Refusal;
 use store::Head;
 use survey::Progress;
-use survey::Step;
+use survey::Surveyed;
 
 // The most bytes of a job.
 pub const JOB_LIMIT: usize = 16777216;
 
-// The recipe's length, the bytes of the new chunks and of the others, and what the job saves on the link.
+// The recipe's length, the bytes of the new chunks and of the others, what the job saves on the link, and its cuts by the
+// values of their maximum points.
 pub struct Quoted {
     pub refusal: Refusal,
     pub recipe_length: u32,
     pub new_bytes: u32,
     pub repeated_bytes: u32,
     pub saving: i64,
+    pub cuts: CutCounts,
 }
 
 // The answer of the job's quote, and the new head.
@@ -42,19 +45,21 @@ fn refused(refusal: Refusal) -> Quoted
         new_bytes: 0,
         repeated_bytes: 0,
         saving: 0,
+        cuts: cut_counts::NONE,
     }
 }
 
 // The answer to a job that was surveyed: its counts, or the ground on which a chunk was refused.
-fn answered(job_length: usize, step: Step) -> Quoted
+fn answered(job_length: usize, surveyed: Surveyed) -> Quoted
     requires { ⌜ «job_length» ≤ jobLimit ⌝ }
-    ensures { λ r. ⌜ r ≡ answered «job_length» (step .refusal) (step .progress) ⌝ }
+    ensures { λ r. ⌜ r ≡ answered «job_length» (surveyed .refusal) (surveyed .progress) (surveyed .cuts) ⌝ }
 {
-    let refusal = step.refusal;
+    let refusal = surveyed.refusal;
     if !refusal::accepted(refusal) {
         return refused(refusal);
     }
-    let progress = step.progress;
+    let progress = surveyed.progress;
+    let cuts = surveyed.cuts;
     Quoted {
         refusal: Refusal::Accepted,
         recipe_length: progress.recipe_length,
@@ -65,6 +70,7 @@ fn answered(job_length: usize, step: Step) -> Quoted
             progress.new_bytes,
             progress.recipe_length,
         ),
+        cuts,
     }
 }
 
@@ -97,10 +103,10 @@ pub fn quote(
     if !refusal::accepted(ground) {
         return refused(ground);
     }
-    let step = survey::survey(head, pool, directory, index, recipe, job);
-    let progress = step.progress;
+    let surveyed = survey::survey(head, pool, directory, index, recipe, job);
+    let progress = surveyed.progress;
     marks::settle(recipe, progress.recipe_length as usize, head.chunks);
-    answered(job.len(), step)
+    answered(job.len(), surveyed)
 }
 
 // Takes a job: its new chunks go into the store and its index. Refused as its quote is, with the head handed back, and store
@@ -129,9 +135,9 @@ pub fn take(
             head,
         };
     }
-    let step = survey::survey(head, pool, directory, index, recipe, job);
-    let refusal = step.refusal;
-    let progress = step.progress;
+    let surveyed = survey::survey(head, pool, directory, index, recipe, job);
+    let refusal = surveyed.refusal;
+    let progress = surveyed.progress;
     let used = progress.recipe_length as usize;
     if !refusal::accepted(refusal) {
         marks::settle(recipe, used, head.chunks);
@@ -143,7 +149,7 @@ pub fn take(
     storing::store_new(head, pool, directory, index, recipe, used, job);
     marks::settle(recipe, used, head.chunks);
     Taken {
-        quoted: answered(job.len(), step),
+        quoted: answered(job.len(), surveyed),
         head: head_after(head, progress),
     }
 }

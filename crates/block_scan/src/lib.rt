@@ -5,15 +5,17 @@ ghost use lib.ListN.{length};
 ghost use Prim.Native.Nat.{_+_, min, _≤_, _<_};
 ghost use Rattle.scan.specs.Limits.{windowLimit};
 ghost use Rattle.scan.specs.Scanner.{fresh};
-ghost use Rattle.scan.specs.Scan.{scan};
+ghost use Rattle.scan.specs.Scan.{scan, firstChunk};
 ghost use Rattle.scan.specs.internal.Sound.{Sound};
 ghost use Rattle.scan.specs.internal.Run.{Going, rest};
 ghost use Rattle.block_scan.specs.internal.Advance.{Advanced, Ended};
+ghost use Rattle.block_scan.specs.internal.Peaks.{atPeak};
 
 mod windows;
 
 use refusal::Refusal;
 use scan::Fed;
+use scan::FirstChunk;
 use scan::Scanner;
 use scan::run;
 use scan::run::Run;
@@ -32,6 +34,8 @@ pub fn scan(scanner: Scanner, part: &[u8]) -> Fed
             scanner,
             consumed: 0,
             cut: false,
+            place: 0,
+            value: 0,
         };
     }
     let run = run::begun(scanner, part);
@@ -44,20 +48,39 @@ pub fn scan(scanner: Scanner, part: &[u8]) -> Fed
     from_middle(run, part)
 }
 
-// The length of the first chunk of a job that is not empty.
-pub fn first_chunk(window: u32, job: &[u8]) -> usize
+// The first chunk of a job that is not empty. Its bytes from the last whole window on are not looked at.
+pub fn first_chunk(window: u32, job: &[u8]) -> FirstChunk
     requires { ⌜ 1 ≤ window ⌝ }
     requires { ⌜ window ≤ windowLimit ⌝ }
     requires { ⌜ 1 ≤ length (now job) ⌝ }
-    ensures { λ r. ⌜ r ≡ scan (fresh window) 0 (now (job .entry)) .consumed ⌝ }
+    ensures { λ r. ⌜ r ≡ firstChunk (scan (fresh window) 0 (now (job .entry))) ⌝ }
 {
     let run = run::begun(scan::fresh(window), job);
     if run.window < SMALLEST {
         let answer = run::by_bytes(run::pass_one(run, job), job);
-        return answer.consumed;
+        return FirstChunk {
+            length: answer.consumed,
+            cut: answer.cut,
+            place: answer.place,
+            value: answer.value,
+        };
     }
     let after = windows::settled(run.window, job, run.at, run.value);
-    min(after + run.window, job.len())
+    let deadline = after + run.window;
+    if job.len() < deadline {
+        return FirstChunk {
+            length: job.len(),
+            cut: false,
+            place: 0,
+            value: 0,
+        };
+    }
+    FirstChunk {
+        length: deadline,
+        cut: true,
+        place: after as u32,
+        value: job[after - 1],
+    }
 }
 
 // The smaller of two numbers.
@@ -77,20 +100,28 @@ fn by_windows(run: Run, part: &[u8]) -> Fed
     let after = windows::settled(run.window, part, run.at, run.value);
     let deadline = after + run.window;
     if deadline <= part.len() {
-        return run::cut(run.window, deadline);
+        return run::cut(at_peak(run, part, after));
     }
+    run::passed(to_end(at_peak(run, part, after), part))
+}
+
+// The run where it has settled, past its largest byte so far.
+fn at_peak(run: Run, part: &[u8], after: usize) -> Run
+    requires { ⌜ run .window ≤ windowLimit ⌝ }
+    requires { ⌜ after ≤ length (now part) ⌝ }
+    ensures { λ r. ⌜ r ≡ atPeak run (now (part .entry)) after ⌝ }
+{
     let mut value = run.value;
     if run.at < after {
         value = part[after - 1];
     }
-    let last = Run {
+    Run {
         window: run.window,
         base: run.base,
-        deadline,
+        deadline: after + run.window,
         value,
         at: after,
-    };
-    run::passed(to_end(last, part))
+    }
 }
 
 // From the middle of a window: first byte by byte, up to one that is larger.
@@ -101,7 +132,7 @@ fn from_middle(run: Run, part: &[u8]) -> Fed
 {
     let run = to_larger(run, part);
     if run.at == run.deadline {
-        return run::cut(run.window, run.at);
+        return run::cut(run);
     }
     if run.at == part.len() {
         return run::passed(run);

@@ -1,5 +1,6 @@
 pub mod PublishedMethod
 pub mod OneCondition
+pub mod Peaks
 pub mod EverySplitting
 pub mod ChunkSizes
 pub mod ChunkLimit

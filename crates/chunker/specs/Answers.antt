@@ -3,6 +3,7 @@ use Prim.Native.Nat.{ℕ}
 use mathlib.Core.Bool.{false, cond}
 use mathlib.Core.List.{List}
 use Rattle.refusal.specs.Number.{accepted}
+use Rattle.refusal.specs.declared.Refusal.{Refusal}
 use Rattle.refusal.specs.declared.Refusal.the-variants.{Accepted, Window}
 use Rattle.scan.specs.declared.Scanner.{Scanner}
 use Rattle.chunker.specs.declared.Opened.{Opened}
@@ -19,12 +20,13 @@ opened w =
     (record { refusal = Accepted; scanner = fresh w })
     (record { refusal = Window; scanner = fresh 0 })
 
--- "feeding tests 1 and 2", "A refused feed hands the scanner back, consumes 0 and reports no cut"
+-- the answer where no byte is passed: "hands the scanner back, consumes 0 and reports no cut", "without a cut both are 0"
+abbrev pub unmoved : Refusal → Scanner → Fed
+unmoved ground s = record { refusal = ground; scanner = s; consumed = 0; cut = false; place = 0; value = 0 }
+
+-- "feeding tests 1 and 2"; a refused feed passes no byte
 unfoldable pub fed : Scanner → List ℕ → Fed
-fed s part =
-    cond (accepted (scannerGround s))
-    (scan s 0 part)
-    (record { refusal = scannerGround s; scanner = s; consumed = 0; cut = false })
+fed s part = cond (accepted (scannerGround s)) (scan s 0 part) (unmoved (scannerGround s) s)
 
 -- what a feed in place answers, and the scanner that it leaves behind the reference
 pub record FedInPlace : Type 0 where

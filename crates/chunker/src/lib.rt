@@ -1,15 +1,16 @@
 // Content-defined chunking by Asymmetric Extremum: a scanner that is handed a job in parts and
 // says where its chunks end.
 ghost use mathlib.Core.Path.{_≡_};
-ghost use mathlib.Core.Bool.{false};
-ghost use Rattle.chunker.specs.Answers.{opened, fed, fedInPlace, finished};
+ghost use Rattle.chunker.specs.Answers.{opened, unmoved, fed, fedInPlace, finished};
 ghost use Rattle.scan.specs.Scanner.{fresh};
+ghost use Rattle.scan.specs.Scan.{firstChunk};
 
 mod ground;
 
 pub use ground::window_allowed;
 use refusal::Refusal;
 pub use scan::Fed;
+pub use scan::FirstChunk;
 pub use scan::Scanner;
 
 // The widest window.
@@ -17,6 +18,14 @@ pub const WINDOW_LIMIT: u32 = 64;
 
 // The bytes of the longest chunk: memory of this length holds any one.
 pub const CHUNK_LIMIT: u32 = 256 * WINDOW_LIMIT + 1;
+
+// What is told of the first chunk of no bytes.
+const NO_CHUNK: FirstChunk = FirstChunk {
+    length: 0,
+    cut: false,
+    place: 0,
+    value: 0,
+};
 
 pub struct Opened {
     pub refusal: Refusal,
@@ -47,7 +56,7 @@ pub fn open(window: u32) -> Opened
 }
 
 // Moves the scanner on over a part, up to and including the byte that ends a chunk, or over the
-// whole part. Refused by grounds 1 and 2, with the scanner handed back.
+// whole part. At a cut it tells the chunk's maximum point. Refused by grounds 1 and 2, with the scanner handed back.
 pub fn feed(scanner: Scanner, part: &[u8]) -> Fed
     ensures { λ r. ⌜ r ≡ fed scanner (now (part .entry)) ⌝ }
 {
@@ -58,6 +67,8 @@ pub fn feed(scanner: Scanner, part: &[u8]) -> Fed
             scanner,
             consumed: 0,
             cut: false,
+            place: 0,
+            value: 0,
         };
     }
     block_scan::scan(scanner, part)
@@ -79,26 +90,28 @@ pub fn feed_fresh(window: u32, part: &[u8]) -> Fed
 
 // The answer of a fresh scanner that passes no byte.
 fn unmoved(refusal: Refusal, window: u32) -> Fed
-    ensures { λ r. ⌜ r ≡ record { refusal = refusal; scanner = fresh window; consumed = 0; cut = false } ⌝ }
+    ensures { λ r. ⌜ r ≡ unmoved refusal (fresh window) ⌝ }
 {
     Fed {
         refusal,
         scanner: scan::fresh(window),
         consumed: 0,
         cut: false,
+        place: 0,
+        value: 0,
     }
 }
 
-// The length of the first chunk of a job; its last chunk may end without a cut. 0 where the job is empty
-// or ground 1 holds.
-pub fn next_chunk(window: u32, job: &[u8]) -> usize
-    ensures { λ r. ⌜ r ≡ fed (fresh window) (now (job .entry)) .consumed ⌝ }
+// The first chunk of a job, with its maximum point where a cut ends it; the last chunk may end without one. All
+// zeros where the job is empty or ground 1 holds.
+pub fn next_chunk(window: u32, job: &[u8]) -> FirstChunk
+    ensures { λ r. ⌜ r ≡ firstChunk (fed (fresh window) (now (job .entry))) ⌝ }
 {
     if !window_allowed(window) {
-        return 0;
+        return NO_CHUNK;
     }
     if job.len() == 0 {
-        return 0;
+        return NO_CHUNK;
     }
     block_scan::first_chunk(window, job)
 }

@@ -32,14 +32,14 @@ pub record ScannerFeeding : Type 0 where
   pub scanner : List ℕ
   pub fed : List ℕ
 
--- "A refused feed hands the scanner back, consumes 0 and reports no cut"
+-- "A refused feed hands the scanner back, consumes 0 and reports no cut", "without a cut both are 0"
 unfoldable pub scannerFed : List ℕ → List ℕ → ScannerFeeding
 scannerFed n part =
     let ground = numbersGround n in
     let f = fed (scannerOf n) part in
     cond (accepted ground)
     (record { refusal = numberOf ground; scanner = numbersOf (f .scanner); fed = told f })
-    (record { refusal = numberOf ground; scanner = n; fed = 0 ∷ 0 ∷ [] })
+    (record { refusal = numberOf ground; scanner = n; fed = 0 ∷ 0 ∷ 0 ∷ 0 ∷ [] })
 
 -- what a finish answers and writes
 pub record ScannerFinishing : Type 0 where

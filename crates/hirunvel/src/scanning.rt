@@ -13,24 +13,24 @@ pub extern "C" fn hirunvel_scanner_open(window: u32, scanner: &mut [u32; 4]) -> 
     numbers::of_refusal(refusal)
 }
 
-// Moves the scanner on over a part; tells the bytes consumed, and 1 if a cut follows them. Refused by
-// grounds 1 and 2, with the scanner untouched and zeros told. Fed once per chunk, a scanner is fresh at each
+// Moves the scanner on over a part; tells the bytes consumed, 1 if a cut follows them, and then the place and the value of
+// the chunk's maximum point. Refused by grounds 1 and 2, with the scanner untouched and zeros told. Fed once per chunk, a scanner is fresh at each
 // call: a small window then takes a fast path, and a cut leaves the numbers as they are.
 #[no_mangle]
 pub extern "C" fn hirunvel_scanner_feed(
     scanner: &mut [u32; 4],
     part: &[u8],
-    fed: &mut [u64; 2],
+    fed: &mut [u64; 4],
 ) -> u32
     ensures { λ r. ⌜ record { refusal = r; scanner = now (scanner .exit); fed = now (fed .exit) }
         ≡ scannerFed (now (scanner .entry)) (now (part .entry)) ⌝ }
 {
     let lent = *scanner;
     if 8 <= lent[0] {
-        return feed_general(scanner, part, fed);
+        return feed_general(scanner, &part[0..], fed);
     }
     if !numbers::untouched(lent) {
-        return feed_general(scanner, part, fed);
+        return feed_general(scanner, &part[0..], fed);
     }
     let answer = chunker::feed_fresh(lent[0], part);
     let refusal = answer.refusal;
@@ -43,13 +43,13 @@ pub extern "C" fn hirunvel_scanner_feed(
 
 // The same for any scanner. Called from two places so that it is not inlined; the fast path then saves no
 // registers.
-fn feed_general(scanner: &mut [u32; 4], part: &[u8], fed: &mut [u64; 2]) -> u32
+fn feed_general(scanner: &mut [u32; 4], part: &[u8], fed: &mut [u64; 4]) -> u32
     ensures { λ r. ⌜ record { refusal = r; scanner = now (scanner .exit); fed = now (fed .exit) }
         ≡ scannerFed (now (scanner .entry)) (now (part .entry)) ⌝ }
 {
     let lent = *scanner;
     if 255 < lent[3] {
-        *fed = [0, 0];
+        *fed = [0, 0, 0, 0];
         return numbers::value_over_255(lent[0]);
     }
     let answer = chunker::feed(numbers::scanner_of(lent), part);

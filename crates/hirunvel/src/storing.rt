@@ -14,7 +14,8 @@ pub extern "C" fn hirunvel_store_open(window: u32, head: &mut [u32; 3]) -> u32
     numbers::of_refusal(refusal)
 }
 
-// Quotes a job: tells the recipe's length, the new and the repeated bytes, and the saving, and writes only the recipe.
+// Quotes a job: tells the recipe's length, the new and the repeated bytes, the cuts of each kind, and the saving, and writes
+// only the recipe.
 // Refused by grounds 1, 3 to 8, 11 and 12, with zeros told.
 #[no_mangle]
 pub extern "C" fn hirunvel_store_quote(
@@ -24,7 +25,7 @@ pub extern "C" fn hirunvel_store_quote(
     index: &[u32],
     recipe: &mut [u32],
     job: &[u8],
-    counts: &mut [u64; 3],
+    counts: &mut [u64; 6],
     saving: &mut [i64; 1],
 ) -> u32
     ensures { λ r. ⌜ record {
@@ -52,7 +53,7 @@ pub extern "C" fn hirunvel_store_take(
     index: &mut [u32],
     recipe: &mut [u32],
     job: &[u8],
-    counts: &mut [u64; 3],
+    counts: &mut [u64; 6],
     saving: &mut [i64; 1],
 ) -> u32
     ensures { λ r. ⌜ record {

@@ -32,7 +32,8 @@ pub fn frames(job: &[u8], recipe: &[u32], output: &mut [u8]) -> usize
     let mut used = 0;
     let mut at = 0;
     while at < job.len() {
-        let size = chunker::next_chunk(WINDOW, &job[at..]);
+        let chunk = chunker::next_chunk(WINDOW, &job[at..]);
+        let size = chunk.length;
         let number = recipe[used];
         let new = mark(ChunkNumber(number), ChunkNumber(next));
         frame_text::chunk_frame(

@@ -22,6 +22,7 @@ scannerOf n = record { window = getD n 0 0; count = getD n 1 0; place = getD n 2
 abbrev pub overGround : ℕ → Refusal
 overGround w = first (windowGround w ∷ Unsound ∷ [])
 
--- "The answer says how many bytes were consumed and whether a cut follows", which 1 tells
+-- "The answer says how many bytes were consumed and whether a cut follows", which 1 tells, and "the place and value of its
+-- maximum point"
 abbrev pub told : Fed → List ℕ
-told f = f .consumed ∷ cond (f .cut) 1 0 ∷ []
+told f = f .consumed ∷ cond (f .cut) 1 0 ∷ f .place ∷ f .value ∷ []

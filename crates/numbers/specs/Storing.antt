@@ -14,6 +14,8 @@ headOf n =
 abbrev pub headNumbers : Head → List ℕ
 headNumbers h = h .window ∷ h .chunks .0 ∷ h .filled .0 ∷ []
 
--- "recipe length, new bytes, repeated bytes"
+-- "recipe length, new bytes, repeated bytes", and the "three counts of cuts: value below 20, 20 to 7E, above 7E"
 abbrev pub countsOf : Quoted → List ℕ
-countsOf q = q .«recipe_length» ∷ q .«new_bytes» ∷ q .«repeated_bytes» ∷ []
+countsOf q =
+    q .«recipe_length» ∷ q .«new_bytes» ∷ q .«repeated_bytes»
+    ∷ q .cuts .low ∷ q .cuts .printable ∷ q .cuts .high ∷ []

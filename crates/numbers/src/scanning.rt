@@ -13,8 +13,8 @@ use refusal::Refusal;
 // A scanner's window, count, place and value.
 pub type ScannerNumbers = [u32; 4];
 
-// The bytes that a feed consumed, and 1 if a cut follows them.
-pub type FedNumbers = [u64; 2];
+// The bytes that a feed consumed, 1 if a cut follows them, and the place and the value of the chunk's maximum point.
+pub type FedNumbers = [u64; 4];
 
 // The numbers of a scanner.
 pub fn of_scanner(scanner: Scanner) -> ScannerNumbers
@@ -68,5 +68,10 @@ pub fn untouched(numbers: ScannerNumbers) -> bool
 pub fn of_fed(fed: Fed) -> FedNumbers
     ensures { λ r. ⌜ r ≡ told fed ⌝ }
 {
-    [fed.consumed as u64, fed.cut as u64]
+    [
+        fed.consumed as u64,
+        fed.cut as u64,
+        fed.place as u64,
+        fed.value as u64,
+    ]
 }

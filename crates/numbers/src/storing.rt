@@ -9,8 +9,8 @@ use store::PoolOffset;
 // A head's window, chunks and filled.
 pub type HeadNumbers = [u32; 3];
 
-// A quote's recipe length, new bytes and repeated bytes.
-pub type Counts = [u64; 3];
+// A quote's recipe length, new bytes and repeated bytes, and its cuts of low, printable and high values.
+pub type Counts = [u64; 6];
 
 // The head of three numbers.
 pub fn head_of(numbers: HeadNumbers) -> Head
@@ -36,9 +36,13 @@ pub fn of_head(head: Head) -> HeadNumbers
 pub fn of_counts(answer: Quoted) -> Counts
     ensures { λ r. ⌜ r ≡ countsOf answer ⌝ }
 {
+    let cuts = answer.cuts;
     [
         answer.recipe_length as u64,
         answer.new_bytes as u64,
         answer.repeated_bytes as u64,
+        cuts.low as u64,
+        cuts.printable as u64,
+        cuts.high as u64,
     ]
 }

@@ -1,6 +1,7 @@
 pub mod FirstAppearances
 pub mod Quotes
 pub mod Saving
+pub mod CutCounts
 pub mod NumbersStay
 pub mod IndexStays
 pub mod GivesBack

@@ -7,6 +7,7 @@ use mathlib.Core.List.{List, [], _∷_, _++_}
 use lib.Dec.{eqb}
 use lib.ListN.{length, take, drop, getD}
 use Rattle.chunker.specs.Chunks.{chunks}
+use Rattle.cut_counts.specs.CutCounts.{cutCounts}
 use Rattle.directory.specs.Entry.{entries}
 use Rattle.index.specs.Index.{freshIndex}
 use Rattle.promises.specs.History.{Event, quoting, taking, reading, eventAt}
@@ -99,6 +100,11 @@ Counts w m calls j job c = FirstAppearances w (chunksBefore m calls w j) job (ch
 -- "Saving becomes job length − new bytes − 72 × packets": saving[0]
 abbrev pub Saves : ℕ → Memory → List Event → ℕ → List ℕ → StoreQuotation → Type 0
 Saves w m calls j job c = c .saving ≡ jobSaving w (chunksBefore m calls w j) job ∷ []
+
+-- "three counts of cuts: value below 20, 20 to 7E, above 7E": counts[3], counts[4] and counts[5]
+abbrev pub CountsCuts : ℕ → List ℕ → StoreQuotation → Type 0
+CountsCuts w job c =
+    drop 3 (c .counts) ≡ cutCounts w job .low ∷ cutCounts w job .printable ∷ cutCounts w job .high ∷ []
 
 -- demand 2: "the recipe of each accepted job, given a long enough output, gives back that job's bytes"
 pub record GivesBack (job output : List ℕ) (r : JobRebuilding) : Type 0 where

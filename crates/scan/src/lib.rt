@@ -20,12 +20,23 @@ pub struct Scanner {
     pub value: u8,
 }
 
-// How many bytes of the part were consumed, and whether a cut follows them.
+// How many bytes of the part were consumed, and whether a cut follows them. At a cut, the place of the chunk's maximum
+// point, counted from 1 in the chunk, and its value; without one both are 0.
 pub struct Fed {
     pub refusal: Refusal,
     pub scanner: Scanner,
     pub consumed: usize,
     pub cut: bool,
+    pub place: u32,
+    pub value: u8,
+}
+
+// The first chunk of a job: its length, whether a cut ends it, and as in `Fed` its maximum point.
+pub struct FirstChunk {
+    pub length: usize,
+    pub cut: bool,
+    pub place: u32,
+    pub value: u8,
 }
 
 // A scanner with no byte since the last cut.

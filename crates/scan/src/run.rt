@@ -2,9 +2,7 @@
 ghost use mathlib.Core.Path.{_≡_};
 ghost use lib.ListN.{length};
 ghost use Prim.Native.Nat.{_+_, _-_, _^_, _≤_, _<_};
-ghost use mathlib.Core.Bool.{true, false};
-ghost use Rattle.scan.specs.Scanner.{fresh};
-ghost use Rattle.scan.specs.Scan.{consumed};
+ghost use Rattle.scan.specs.Scan.{uncut, cutAfter};
 ghost use Rattle.scan.specs.internal.Sound.{Sound};
 ghost use Rattle.scan.specs.internal.Run.{standing, Going, rest, Further, Begun};
 use crate::Fed;
@@ -55,7 +53,7 @@ pub fn passed(run: Run) -> Fed
     requires { ⌜ run .base + run .at < 2 ^ 32 ⌝ }
     requires { ⌜ run .base + run .deadline < 2 ^ 32 ⌝ }
     requires { ⌜ run .window < run .base + run .deadline ⌝ }
-    ensures { λ r. ⌜ r ≡ consumed (standing (run .window) (run .base) (run .deadline) (run .value) (run .at)) (run .at) false ⌝ }
+    ensures { λ r. ⌜ r ≡ uncut (standing (run .window) (run .base) (run .deadline) (run .value) (run .at)) (run .at) ⌝ }
 {
     let window = run.window;
     let count = run.base + run.at;
@@ -70,19 +68,24 @@ pub fn passed(run: Run) -> Fed
         },
         consumed: run.at,
         cut: false,
+        place: 0,
+        value: 0,
     }
 }
 
-// A cut follows the bytes up to `at`.
-pub fn cut(window: usize, at: usize) -> Fed
-    requires { ⌜ window < 2 ^ 32 ⌝ }
-    ensures { λ r. ⌜ r ≡ consumed (fresh window) at true ⌝ }
+// A cut follows the bytes up to the deadline. The maximum point is the largest byte so far.
+pub fn cut(run: Run) -> Fed
+    requires { ⌜ run .base + run .deadline < 2 ^ 32 ⌝ }
+    requires { ⌜ run .window < run .base + run .deadline ⌝ }
+    ensures { λ r. ⌜ r ≡ cutAfter (run .window) (run .deadline) (run .base + run .deadline - run .window) (run .value) ⌝ }
 {
     Fed {
         refusal: Refusal::Accepted,
-        scanner: fresh(window as u32),
-        consumed: at,
+        scanner: fresh(run.window as u32),
+        consumed: run.deadline,
         cut: true,
+        place: (run.base + run.deadline - run.window) as u32,
+        value: run.value,
     }
 }
 
@@ -124,7 +127,14 @@ pub fn by_bytes(run: Run, part: &[u8]) -> Fed
         let byte = part[at];
         if byte <= value {
             if at == last {
-                return cut(window, at + 1);
+                let deadline = at + 1;
+                return cut(Run {
+                    window,
+                    base,
+                    deadline,
+                    value,
+                    at,
+                });
             }
         } else {
             value = byte;

@@ -11,6 +11,7 @@ use store::PoolOffset;
 
 mod chunks;
 
+pub use chunks::Surveyed;
 pub use chunks::survey;
 
 // The next chunk number and pool offset, and what is counted so far.
@@ -22,7 +23,7 @@ pub struct Progress {
     pub repeated_bytes: u32,
 }
 
-// The outcome of one chunk, or of a job.
+// The outcome of one chunk.
 pub struct Step {
     pub refusal: Refusal,
     pub progress: Progress,

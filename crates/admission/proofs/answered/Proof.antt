@@ -34,7 +34,7 @@ kept c = search needs
 returns-2 : tie.Need-returns-2
 unfolding answered
 returns-2 c =
-    let passed = c .before .before in
+    let passed = c .before .before .before in
     let accepts = sym (passed .before .accepted .ensures) ∙ not-false _ (passed .if1 .left) in
     rw (kept c, c .saving .ensures, accepts)
 

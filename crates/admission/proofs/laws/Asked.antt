@@ -15,6 +15,7 @@ use Rattle.store.specs.Memory.{contents}
 use Rattle.store.proofs.laws.contents.Additions.{numbers-after, length-numbers, total-both}
 use Rattle.survey.specs.Walk.{jobWalk}
 use Rattle.tariff.specs.Tariff.{savingOf}
+use Rattle.cut_counts.specs.CutCounts.{cutCounts}
 use Rattle.admission.specs.Grounds.{admissionGround}
 use Rattle.admission.specs.Quote.{Quotation, recipeOf, walked, quoted}
 use Rattle.admission.proofs.laws.grounds.Passed.{Passed, all-passed}
@@ -22,14 +23,15 @@ use Rattle.admission.proofs.laws.Chunks.{total-chunks}
 use Rattle.admission.proofs.laws.Surveyed as surveyed
 use Rattle.admission.proofs.laws.Surveyed.{begun}
 
--- for the chunks cs of a job, and the chunks that the store holds
-pub record Asked (held cs : List (List ℕ)) (job : List ℕ) (q : Quotation) : Type 0 where
-  pub counted : q .answer .«recipe_length» ≡ length cs
-  pub recipe : recipeOf q ≡ map (number (grown held cs)) cs
-  pub new : q .answer .«new_bytes» ≡ total (added held cs)
-  pub others : q .answer .«repeated_bytes» ≡ total (repeated held cs)
+-- for a job that is cut with the window w, and the chunks that the store holds
+pub record Asked (w : ℕ) (held : List (List ℕ)) (job : List ℕ) (q : Quotation) : Type 0 where
+  pub counted : q .answer .«recipe_length» ≡ length (chunks w job)
+  pub recipe : recipeOf q ≡ map (number (grown held (chunks w job))) (chunks w job)
+  pub new : q .answer .«new_bytes» ≡ total (added held (chunks w job))
+  pub others : q .answer .«repeated_bytes» ≡ total (repeated held (chunks w job))
   pub all : q .answer .«new_bytes» + q .answer .«repeated_bytes» ≡ length job
-  pub saving : q .answer .saving ≡ savingOf (length job) (q .answer .«new_bytes») (length cs)
+  pub saving : q .answer .saving ≡ savingOf (length job) (q .answer .«new_bytes») (length (chunks w job))
+  pub cuts : q .answer .cuts ≡ cutCounts w job
 
 module _ (head : Head) (pool directory index recipe job : List ℕ)
     (h : accepted (quoted head pool directory index recipe job .answer .refusal) ≡ true) where
@@ -53,7 +55,7 @@ module _ (head : Head) (pool directory index recipe job : List ℕ)
   passed = all-passed head pool directory index recipe job ground
 
   -- and no chunk is refused
-  walks : quoted head pool directory index recipe job ≡ walked held (length job) recipe (jobWalk head pool directory recipe job)
+  walks : quoted head pool directory index recipe job ≡ walked (head .window) job held recipe (jobWalk head pool directory recipe job)
   unfolding quoted
   walks = rw ground
 
@@ -64,7 +66,7 @@ module _ (head : Head) (pool directory index recipe job : List ℕ)
       by-test true e = refl
       by-test false e = sym e ∙ rw e at (rw walks at h)
 
-  pub asked : Asked held cs job (quoted head pool directory index recipe job)
+  pub asked : Asked (head .window) held job (quoted head pool directory index recipe job)
   asked =
       let all = surveyed.all-passed head pool directory recipe job (begun passed) whole in
       let ns = numbers held cs in
@@ -76,6 +78,7 @@ module _ (head : Head) (pool directory index recipe job : List ℕ)
         others = refl;
         all = total-both held cs ∙ total-chunks (head .window) job;
         saving = refl;
+        cuts = refl;
       })
 
   -- no more chunks than a recipe may have places

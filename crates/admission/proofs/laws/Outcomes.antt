@@ -1,10 +1,13 @@
 -- What a quote and a take come to, by the tests in the order in which the code makes them.
 use Prim.Native.Nat.{ℕ, _+_, _^_, _≤_, _<_}
-use mathlib.Core.Path.{_≡_, ap, _∙_}
-use mathlib.Core.Bool.{true, false}
+use mathlib.Core.Path.{_≡_, refl, ap, _∙_}
+use mathlib.Core.Bool.{Bool, true, false, cond}
 use mathlib.Core.List.{List, [], _++_}
 use lib.ListN.{length, take, drop}
 use Rattle.refusal.specs.Number.{accepted}
+use Rattle.refusal.specs.declared.Refusal.{Refusal}
+use Rattle.cut_counts.specs.declared.CutCounts.{CutCounts}
+use Rattle.cut_counts.specs.CutCounts.{cutCounts}
 use Rattle.chunker.specs.Bytes.{Bytes}
 use Rattle.store.specs.declared.Head.{Head}
 use Rattle.store.specs.Contents.{added}
@@ -20,10 +23,20 @@ use Rattle.survey.specs.internal.Begun.{Begun}
 use Rattle.admission.specs.Grounds.{admissionGround}
 use Rattle.admission.specs.Quote.{Quotation, refused, quoted}
 use Rattle.admission.specs.Take.{Taking, newOf, stores, taken}
-use Rattle.admission.specs.internal.Answers.{answered, headAfter}
+use Rattle.admission.specs.internal.Answers.{countedBy, answered, headAfter}
 use Rattle.admission.proofs.laws.grounds.Passed.{all-passed}
 use Rattle.admission.proofs.laws.Surveyed as surveyed
 use Rattle.admission.proofs.laws.Surveyed.{begun, settled-recipe}
+
+-- an answer tells the cuts only where no chunk is refused
+pub answered-cuts : (n : ℕ) (ground : Refusal) (p : Progress) (c d : CutCounts) → (accepted ground ≡ true → c ≡ d)
+    → answered n ground p c ≡ answered n ground p d
+unfolding answered
+answered-cuts n ground p c d same = by-test (accepted ground) refl
+  where
+    by-test : (t : Bool) → accepted ground ≡ t → cond t (countedBy n p c) (refused ground) ≡ cond t (countedBy n p d) (refused ground)
+    by-test true e = ap (countedBy n p) (same e)
+    by-test false e = refl
 
 -- the marks that a survey left may be settled
 abbrev pub Settleable : Head → Outcome → Type 0
@@ -41,7 +54,7 @@ settledRecipe head f =
 abbrev pub settledTo : Head → List ℕ → Outcome → Quotation
 settledTo head job o =
     record {
-      answer = answered (length job) (o .refusal) (o .snapshot .progress);
+      answer = answered (length job) (o .refusal) (o .snapshot .progress) (cutCounts (head .window) job);
       recipe = settledRecipe head (o .snapshot);
     }
 
@@ -61,7 +74,7 @@ abbrev pub storedTo : Head → List ℕ → List ℕ → List ℕ → List ℕ �
 storedTo head pool directory index job new o =
     record {
       answer = record {
-        quoted = answered (length job) (o .refusal) (o .snapshot .progress);
+        quoted = answered (length job) (o .refusal) (o .snapshot .progress) (cutCounts (head .window) job);
         head = headAfter head (o .snapshot .progress);
       };
       pool = poolWith head pool new;
@@ -110,11 +123,15 @@ module _ (head : Head) (pool directory index recipe job : List ℕ) where
     abbrev progress : Progress
     progress = progressAfter head held (whole .passed)
 
+    -- and the cuts of the job
+    abbrev cuts : CutCounts
+    cuts = cutCounts (head .window) job
+
     -- the recipe as the survey leaves it, with the marks settled
     abbrev settles : List ℕ
     settles = settledRecipe head (surveyAfter head pool directory recipe (whole .passed))
 
-    pub quote-walked : Bytes job → record { answer = answered (length job) (whole .refusal) progress; recipe = settles }
+    pub quote-walked : Bytes job → record { answer = answered (length job) (whole .refusal) progress cuts; recipe = settles }
         ≡ quoted head pool directory index recipe job
     unfolding quoted answered
     quote-walked bytes = rw (h, settled-recipe head pool directory recipe job begins bytes)
@@ -135,7 +152,7 @@ module _ (head : Head) (pool directory index recipe job : List ℕ) where
     take-walked bytes walks =
         let all = surveyed.all-passed head pool directory recipe job begins walks in
         let new = surveyed.new-marked head pool directory recipe job begins bytes walks in
-        let q : Quotation = record { answer = answered (length job) (whole .refusal) progress; recipe = settles } in
+        let q : Quotation = record { answer = answered (length job) (whole .refusal) progress cuts; recipe = settles } in
         let last : stores head pool directory index (newOf head pool directory job) q ≡ taken head pool directory index recipe job =
         rw (← (quote-walked bytes), walks) in
         ap (λ cs. storedTo head pool directory index job cs survey) new

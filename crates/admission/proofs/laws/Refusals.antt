@@ -48,12 +48,12 @@ by-tests true true true true true true false = inr (omega arith)
 by-tests true true true true true true true = inl (omega arith)
 
 -- what the walk gives is refused as the walk is
-walked-refusal : (held : List (List ℕ)) (jobLength : ℕ) (recipe : List ℕ) (whole : Walk)
-    → walked held jobLength recipe whole .answer .refusal ≡ whole .refusal
-walked-refusal held jobLength recipe whole = by-test (accepted (whole .refusal)) refl
+walked-refusal : (w : ℕ) (job : List ℕ) (held : List (List ℕ)) (recipe : List ℕ) (whole : Walk)
+    → walked w job held recipe whole .answer .refusal ≡ whole .refusal
+walked-refusal w job held recipe whole = by-test (accepted (whole .refusal)) refl
   where
     by-test : (t : Bool) → accepted (whole .refusal) ≡ t
-        → cond {A = Quoted} t (counted jobLength held (whole .passed)) (refused (whole .refusal)) .refusal ≡ whole .refusal
+        → cond {A = Quoted} t (counted w job held (whole .passed)) (refused (whole .refusal)) .refusal ≡ whole .refusal
     by-test true h = sym (no-ground (whole .refusal) h)
     by-test false h = refl
 
@@ -68,13 +68,13 @@ module _ (head : Head) (pool directory index recipe job : List ℕ) where
   -- where none of them holds, the quote is that of the walk
   module _ (none : accepted (admissionGround head pool directory index recipe job) ≡ true) where
     pub quote-walks : quoted head pool directory index recipe job
-        ≡ walked (contents pool directory (head .chunks .0)) (length job) recipe (jobWalk head pool directory recipe job)
+        ≡ walked (head .window) job (contents pool directory (head .chunks .0)) recipe (jobWalk head pool directory recipe job)
     unfolding quoted
     quote-walks = rw none
 
     -- and so is its refusal
     pub quote-refusal : quoted head pool directory index recipe job .answer .refusal ≡ jobWalk head pool directory recipe job .refusal
-    quote-refusal = rw quote-walks (walked-refusal _ (length job) recipe (jobWalk head pool directory recipe job))
+    quote-refusal = rw quote-walks (walked-refusal (head .window) job _ recipe (jobWalk head pool directory recipe job))
 
   -- a quote that is refused on one of 6 to 8 is refused by its walk
   pub chunk-refused : (ground : Refusal) → 6 ≤ numberOf ground → numberOf ground ≤ 8

@@ -5,14 +5,16 @@ use mathlib.Core.Bool.{true}
 use borrow.Author.Needs.{needs}
 use borrow.Author.Tests.{not-true, not-false}
 use Rattle.refusal.specs.Number.{accepted}
+use lib.ListN.{length}
 use Rattle.chunker.specs.Bytes.{Bytes}
+use Rattle.cut_counts.specs.CutCounts.{cutCounts}
 use Rattle.chunker.proofs.laws.ground.Soundness.{all-bytes}
 use Rattle.survey.specs.internal.Snapshot.{snapshot, ends}
 use Rattle.survey.specs.internal.Surveyed.{surveyAfter, surveyed}
 use Rattle.survey.specs.Walk.{jobWalk}
 use Rattle.admission.specs.Grounds.{admissionGround}
 use Rattle.admission.proofs.laws.Surveyed.{used-places, few-numbers, earlier-named}
-use Rattle.admission.proofs.laws.Outcomes.{quote-refused, begins, Settleable, settledTo, quote-walked}
+use Rattle.admission.proofs.laws.Outcomes.{answered-cuts, quote-refused, begins, Settleable, settledTo, quote-walked}
 use Rattle.admission.proofs.quote.Statement.{statement}
 use Rattle.admission.proofs.quote.Tie as tie
 
@@ -67,7 +69,7 @@ surveys : (c : tie.After-survey) → let a = start-of (tested-of c .before .befo
     record { refusal = c .survey .result .refusal; snapshot = snapshot (c .survey .result .progress) (c .survey .last .1 .1 .1 .1 .0) }
     ≡ ends (whole .refusal) (surveyAfter (a .head) (a .pool .now) (a .directory .now) (a .recipe .now) (whole .passed))
 unfolding surveyed
-surveys c = c .survey .ensures
+surveys c = c .survey .ensures .0
 
 cast-settle : tie.Need-cast-settle
 cast-settle c = search needs
@@ -99,7 +101,9 @@ returns-2 c =
     let settle = c .before .before .before in
     let call = settle .before .before .before .before .before .before in
     let a = start-of (tested-of call .before .before) .args in
-    rw (c .answered .ensures, settle .settle .ensures)
+    let told = call .survey .result in
+    let cuts = answered-cuts (length (a .job .now)) (told .refusal) (told .progress) (told .cuts) (cutCounts (a .head .window) (a .job .now)) (call .survey .ensures .1) in
+    rw (c .answered .ensures ∙ cuts, settle .settle .ensures)
     (ap (settledTo (a .head) (a .job .now)) (surveys call)
     ∙ quote-walked (a .head) (a .pool .now) (a .directory .now) (a .index .now) (a .recipe .now) (a .job .now) (passes (tested-of call))
     (bytes (tested-of call)))

@@ -5,7 +5,9 @@ use mathlib.Core.Bool.{true}
 use borrow.Author.Needs.{needs}
 use borrow.Author.Tests.{not-true, not-false}
 use Rattle.refusal.specs.Number.{accepted}
+use lib.ListN.{length}
 use Rattle.chunker.specs.Bytes.{Bytes}
+use Rattle.cut_counts.specs.CutCounts.{cutCounts}
 use Rattle.chunker.proofs.laws.ground.Soundness.{all-bytes}
 use Rattle.storing.specs.Storing.{stored}
 use Rattle.storing.specs.internal.Storable.{Storable}
@@ -14,7 +16,7 @@ use Rattle.survey.specs.internal.Snapshot.{Outcome, snapshot}
 use Rattle.survey.specs.internal.Surveyed.{surveyed}
 use Rattle.admission.specs.Grounds.{admissionGround}
 use Rattle.admission.proofs.laws.Surveyed.{used-places, few-numbers, earlier-named, storable}
-use Rattle.admission.proofs.laws.Outcomes.{Settleable, stoppedTo, storedTo, newIn, take-refused, begins, survey, take-stopped, take-walked}
+use Rattle.admission.proofs.laws.Outcomes.{answered-cuts, Settleable, stoppedTo, storedTo, newIn, take-refused, begins, survey, take-stopped, take-walked}
 use Rattle.admission.proofs.take.Statement.{statement}
 use Rattle.admission.proofs.take.Tie as tie
 
@@ -90,7 +92,7 @@ surveys : (c : tie.After-survey) → let a = start-of (tested-of c .before .befo
     record { refusal = c .survey .result .refusal; snapshot = snapshot (c .survey .result .progress) (c .survey .last .1 .1 .1 .1 .0) }
     ≡ survey (a .head) (a .pool .now) (a .directory .now) (a .index .now) (a .recipe .now) (a .job .now) (passes (tested-of c))
 unfolding surveyed
-surveys c = c .survey .ensures
+surveys c = c .survey .ensures .0
 
 cast-used : tie.Need-cast-used
 cast-used c = search needs
@@ -183,7 +185,10 @@ same-length-11 : tie.Need-same-length-11
 same-length-11 c = search needs
 
 same-length-12 : tie.Need-same-length-12
-same-length-12 c = search needs
+same-length-12 c =
+    let settle = c .before .before .before .before in
+    let stored = settle .before .before .before .before .before .before .before .before in
+    settle .settle2 .kept .0 ∙ call-of (passed-of stored .before) .survey .kept .1 .1 .1 .1 .0
 
 returns-3 : tie.Need-returns-3
 unfolding stored
@@ -195,7 +200,9 @@ returns-3 c =
     let pool = ap (λ s. s .pool) (stored .store-new .ensures) in
     let directory = ap (λ s. s .directory) (stored .store-new .ensures) in
     let index = ap (λ s. s .index) (stored .store-new .ensures) in
-    rw (c .head-after .ensures, c .before .answered .ensures, settle .settle2 .ensures, pool, directory, index)
+    let told = call .survey .result in
+    let cuts = answered-cuts (length (a .job .now)) (told .refusal) (told .progress) (told .cuts) (cutCounts (a .head .window) (a .job .now)) (call .survey .ensures .1) in
+    rw (c .head-after .ensures, settle .settle2 .ensures, pool, directory, index, c .before .answered .ensures ∙ cuts)
     (ap (λ (o : Outcome). storedTo (a .head) (a .pool .now) (a .directory .now) (a .index .now) (a .job .now) (newIn (a .job .now) o) o) (surveys call)
     ∙ take-walked (a .head) (a .pool .now) (a .directory .now) (a .index .now) (a .recipe .now) (a .job .now) (passes (tested-of call))
     (bytes (tested-of call)) (walks (passed-of stored)))

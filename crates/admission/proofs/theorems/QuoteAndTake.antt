@@ -53,7 +53,7 @@ module _ (head : Head) (pool directory index recipe job : List ℕ) where
 
   -- what they give with another recipe, by whether none of the grounds holds
   abbrev quotedTo : List ℕ → Bool → Quotation
-  quotedTo other t = cond t (walked held (length job) other whole) (record { answer = refused ground; recipe = other })
+  quotedTo other t = cond t (walked (head .window) job held other whole) (record { answer = refused ground; recipe = other })
 
   -- it is the quote with a recipe of as many places
   same-places : (other : List ℕ) → length other ≡ length recipe

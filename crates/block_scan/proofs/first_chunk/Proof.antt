@@ -1,15 +1,16 @@
 -- `block_scan::first_chunk` meets its contract.
-use Prim.Native.Nat.{_+_}
+use Prim.Native.Nat.{_+_, _-_}
 use native.Mathlib.Omega.{arith}
-use native.Mathlib.Decide.{decLt}
-use mathlib.Core.Path.{_∙_, refl, ap, sym}
-use lib.ListN.{length}
+use mathlib.Core.Path.{_≡_, _∙_, refl, ap, sym}
+use lib.ListN.{getD}
 use borrow.Author.Needs.{needs}
 use Rattle.scan.specs.Scanner.{fresh}
-use Rattle.scan.specs.internal.Run.{Begun}
+use Rattle.scan.specs.Scan.{firstChunk}
+use Rattle.scan.specs.internal.Run.{rest, Begun}
 use Rattle.scan.proofs.laws.Soundness.{fresh-sound}
-use Rattle.block_scan.proofs.laws.windows.Peaks.{settled-under, settled-cuts}
-use Rattle.block_scan.proofs.laws.PartEnds.{consumed-whole}
+use Rattle.scan.proofs.laws.run.Underway.{Underway, deadline-small}
+use Rattle.block_scan.proofs.laws.windows.Peaks.{settled-value, settled-under, settled-cuts}
+use Rattle.block_scan.proofs.laws.PartEnds.{uncut-whole}
 use Rattle.block_scan.proofs.first_chunk.Statement.{statement}
 use Rattle.block_scan.proofs.first_chunk.Tie as tie
 
@@ -35,33 +36,61 @@ returns : tie.Need-returns
 returns c =
     let passed = c .before in
     let begun = passed .before .before .before in
-    ap (λ f. f .consumed) (c .by-bytes .ensures ∙ (passed .pass-one .ensures .gives ∙ begins begun .gives))
+    ap firstChunk (c .by-bytes .ensures ∙ (passed .pass-one .ensures .gives ∙ begins begun .gives))
 
 settled-requires : tie.Need-settled-requires
 settled-requires c κs = search needs
 
-add-min : tie.Need-add-min
-add-min c = search needs
+-- the scan from the byte after the first on, once it has settled
+settles : (c : tie.After-settled) → let after = c .settled .result in let r = c .before .before .before .begun .result in
+    let job = c .before .before .before .before .before .before .args .job .now in
+    Underway job (r .window) (r .base) (after + r .window) (c .settled .ensures .value) after (rest r job)
+settles c =
+    let b = begins (c .before .before .before) in
+    settled-under (c .settled .ensures) (b .going) (b .fresh refl .whole) _ refl
 
-min-requires : tie.Need-min-requires
-min-requires c κs = search needs
+add-deadline : tie.Need-add-deadline
+add-deadline c = search needs
 
 returns-2 : tie.Need-returns-2
 returns-2 c =
     let settled = c .before .before in
     let begun = settled .before .before .before in
-    let s = settled .settled .ensures in
-    let b = begins begun in
     let known = begun .before .before .shared-slice-known .given in
+    sym (uncut-whole _ _ _ _ (λ q. omega (arith, known q)) _ _ _ (settles settled) (c .if2 .taken))
+    ∙ ap firstChunk (begins begun .gives)
+
+-- the byte at which it has settled is the chunk's largest so far
+settled-byte : (c : tie.After-settled) → let job = c .before .before .before .before .before .before .args .job .now in
+    c .settled .ensures .value ≡ getD job (c .settled .result - 1) 0
+settled-byte c =
+    let start = begins (c .before .before .before) .fresh refl in
+    let job = c .before .before .before .before .before .before .args .job .now in
+    let s = c .settled .ensures in
+    settled-value s (getD job (c .settled .result - 1) 0) (λ _. refl)
+    (λ here. ap (λ x. getD job x 0) (omega (arith, here, start .at, s .reached .on)) ∙ sym (start .value))
+
+cast-t12 : tie.Need-cast-t12
+cast-t12 c = omega (arith, deadline-small (settles (c .before .before) .order))
+
+sub-t10 : tie.Need-sub-t10
+sub-t10 c =
+    let settled = c .before .before in
+    omega (arith, begins (settled .before .before .before) .fresh refl .at, settled .settled .ensures .reached .on)
+
+shared-slice-read-t14 : tie.Need-shared-slice-read-t14
+shared-slice-read-t14 c = omega (arith, settles (c .before .before .before) .order .low)
+
+returns-3 : tie.Need-returns-3
+returns-3 c =
+    let settled = c .before .before .before in
+    let begun = settled .before .before .before in
+    let b = begins begun in
     let w = begun .begun .result .window in
     let after = settled .settled .result in
-    elim (decLt (length (begun .before .before .before .args .job .now)) (after + w)) [
-      | yes short ↦
-          c .min .ensures ∙ (omega arith ∙ (sym (consumed-whole _ _ _ _ (λ q. omega (arith, known q)) _ _ _
-          (settled-under s (b .going) (b .whole refl)) short) ∙ ap (λ f. f .consumed) (b .gives)))
-      | no long ↦
-          c .min .ensures ∙ (omega arith ∙ ap (λ f. f .consumed) (settled-cuts s (b .going) (b .whole refl) (after + w) refl (omega arith) ∙ b .gives))
-    ]
+    let place : begun .begun .result .base + (after + w) - w ≡ after = omega (arith, b .fresh refl .base) in
+    let cuts = settled-cuts (settled .settled .ensures) (b .going) (b .fresh refl .whole) _ (settled-byte settled) (after + w) refl (omega arith) in
+    ap firstChunk (rw place at cuts ∙ b .gives)
 
 pub first-chunk-spec : {M : Type 1} → statement M
 first-chunk-spec =
@@ -73,6 +102,9 @@ first-chunk-spec =
     by-bytes-requires
     returns
     settled-requires
-    add-min
-    min-requires
-    returns-2)
+    add-deadline
+    returns-2
+    cast-t12
+    sub-t10
+    shared-slice-read-t14
+    returns-3)

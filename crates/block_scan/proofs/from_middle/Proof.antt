@@ -11,12 +11,14 @@ to-larger-requires : tie.Need-to-larger-requires
 to-larger-requires c κs = search needs
 
 cut-requires : tie.Need-cut-requires
-cut-requires c κs = search needs
+cut-requires c κs =
+    let advanced = c .before .before .to-larger .ensures in
+    omega (arith, advanced .fits, advanced .small)
 
 returns : tie.Need-returns
 returns c =
     let larger = c .before .before .before in
-    c .cut .ensures ∙ rw (larger .to-larger .ensures .window) (larger .to-larger .ensures .cut (c .before .if1 .taken))
+    c .cut .ensures ∙ larger .to-larger .ensures .cut (c .before .if1 .taken)
 
 -- the chunk has not ended
 further : (c : tie.Else1) → let larger = c .before .before in let a = larger .before .before .args in

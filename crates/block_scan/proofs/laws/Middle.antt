@@ -9,7 +9,7 @@ use Rattle.blocks.specs.internal.Largest.{AtMost}
 use Rattle.blocks.proofs.laws.Largest.{at-one}
 use Rattle.scan.specs.declared.run.Run.{Run}
 use Rattle.scan.specs.internal.Run.{Going, rest}
-use Rattle.scan.proofs.laws.run.Underway.{Underway, passes-to, byte-rises, cuts-to}
+use Rattle.scan.proofs.laws.run.Underway.{Underway, passes-to, byte-rises, cuts-to, deadline-small}
 use Rattle.block_scan.specs.internal.Advance.{Advanced}
 
 -- the run r has come to `next`, not beyond `stop`, by bytes that are not larger than its value
@@ -72,6 +72,8 @@ module _ {r next : Run} {part : List ℕ} {stop : ℕ} (p : Passing r next part 
         record {
           window = p .window;
           bound = omega arith;
+          fits = omega (arith, p .window, p .base, u .order .fits);
+          small = omega (arith, p .window, p .base, deadline-small (u .order));
           cut = λ e. absurd (omega (arith, p .window, going .low));
           uncut = λ _.
               record { window = p .window; going = rw (p .window, p .base) (u .order); gives = rw (p .window, p .base) (u .gives) };
@@ -84,7 +86,12 @@ module _ {r next : Run} {part : List ℕ} {stop : ℕ} (p : Passing r next part 
         record {
           window = p .window;
           bound = omega (arith, p .bound, p .deadline);
-          cut = λ e. cuts-to start (next .at) (omega (arith, p .deadline)) (omega (arith, p .bound)) (p .passed .bound);
+          fits = omega (arith, p .window, p .base, p .deadline, going .fits);
+          small = omega (arith, p .base, p .deadline, deadline-small going);
+          cut = λ e.
+              rw (p .window, p .base, p .deadline, p .value)
+              (cuts-to start (r .deadline) refl (omega (arith, p .bound, p .deadline))
+              (λ q l h. p .passed .bound q l (omega (arith, p .deadline))));
           uncut = λ early.
               let u = passed-to (omega (arith, p .deadline)) in
               record {

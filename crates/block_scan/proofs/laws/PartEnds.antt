@@ -3,29 +3,37 @@ use Prim.Native.Nat.{ℕ, zero, suc, _+_, _-_, _≤_, _<_}
 use native.Mathlib.Omega.{arith}
 use native.Mathlib.Decide.{decLt}
 use mathlib.Core.Path.{_≡_, sym, ap, subst, _∙_}
+use mathlib.Core.Bool.{false}
 use mathlib.Core.List.{List}
 use lib.ListN.{length, getD}
 use Rattle.blocks.specs.internal.Largest.{AtMost, FirstAt, Stands}
 use Rattle.blocks.proofs.laws.Largest.{first-within}
 use Rattle.scan.specs.declared.Fed.{Fed}
+use Rattle.scan.specs.declared.FirstChunk.{FirstChunk}
+use Rattle.scan.specs.Scan.{firstChunk}
 use Rattle.scan.proofs.laws.run.Underway.{Underway, rises-to, passes-to, byte-rises, byte-passes, stops}
 
 module _ (part : List ℕ) (w base : ℕ) (asked : Fed) (byte : (q : ℕ) → getD part q 0 < 256) where
-  consumed-by : (n d v i : ℕ) → Underway part w base d v i asked → i + n ≡ length part → length part < d
-      → asked .consumed ≡ length part
-  consumed-by zero d v i u same late = sym (ap (λ f. f .consumed) (stops u (omega arith))) ∙ omega arith
-  consumed-by (suc n) d v i u same late =
+  -- the whole part is a chunk that no cut ends
+  abbrev uncutWhole : ℕ → FirstChunk
+  uncutWhole n = record { length = n; cut = false; place = 0; value = 0 }
+
+  uncut-by : (n d v i : ℕ) → Underway part w base d v i asked → i + n ≡ length part → length part < d
+      → firstChunk asked ≡ uncutWhole (length part)
+  uncut-by zero d v i u same late = sym (ap firstChunk (stops u (omega arith))) ∙ ap uncutWhole (omega arith)
+  uncut-by (suc n) d v i u same late =
       elim (decLt v (getD part i 0)) [
         | yes larger ↦
-            consumed-by n (i + 1 + w) (getD part i 0) (i + 1) (byte-rises u (omega arith) larger (byte i)) (omega arith)
+            uncut-by n (i + 1 + w) (getD part i 0) (i + 1) (byte-rises u (omega arith) larger (byte i)) (omega arith)
             (omega (arith, u .order .near))
         | no notLarger ↦
-            consumed-by n d v (i + 1) (byte-passes u (omega arith) (omega arith) (omega arith)) (omega arith) late
+            uncut-by n d v (i + 1) (byte-passes u (omega arith) (omega arith) (omega arith)) (omega arith) late
       ]
 
-  -- it is consumed whole
-  pub consumed-whole : (d v i : ℕ) → Underway part w base d v i asked → length part < d → asked .consumed ≡ length part
-  consumed-whole d v i u late = consumed-by (length part - i) d v i u (omega (arith, u .order .index)) late
+  -- it is consumed whole, with no cut
+  pub uncut-whole : (d v i : ℕ) → Underway part w base d v i asked → length part < d
+      → firstChunk asked ≡ uncutWhole (length part)
+  uncut-whole d v i u late = uncut-by (length part - i) d v i u (omega (arith, u .order .index)) late
 
 -- of its rest only the first of the largest bytes, at j, matters
 module _ {part : List ℕ} {w base d v i : ℕ} {asked : Fed} (u : Underway part w base d v i asked) (late : length part < d) where

@@ -26,7 +26,7 @@ returns-2 c =
 by-windows-requires : tie.Need-by-windows-requires
 by-windows-requires c κs =
     let begun = c .before .before .before .before .begun .ensures in
-    (begun .going, (begun .whole (c .if3 .taken), omega arith))
+    (begun .going, (begun .fresh (c .if3 .taken) .whole, omega arith))
 
 returns-3 : tie.Need-returns-3
 returns-3 c = c .by-windows .ensures ∙ c .before .before .before .before .before .begun .ensures .gives

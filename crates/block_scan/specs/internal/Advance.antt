@@ -1,19 +1,21 @@
 -- How far a scan has come.
-use Prim.Native.Nat.{ℕ, _+_, _≤_, _<_}
+use Prim.Native.Nat.{ℕ, _+_, _-_, _≤_, _<_}
 use mathlib.Core.Path.{_≡_}
-use mathlib.Core.Bool.{true}
 use mathlib.Core.List.{List}
 use lib.ListN.{length}
 use Rattle.scan.specs.declared.run.Run.{Run}
-use Rattle.scan.specs.Scanner.{fresh}
-use Rattle.scan.specs.Scan.{consumed}
+use Rattle.scan.specs.Limits.{chunkLimit}
+use Rattle.scan.specs.Scan.{cutAfter}
 use Rattle.scan.specs.internal.Run.{rest, Further}
 
 -- a run further on in the part, or at the end of the chunk; inside the part it has a whole window to come
 pub record Advanced (r next : Run) (part : List ℕ) : Type 0 where
   pub window : next .window ≡ r .window
   pub bound : next .at ≤ next .deadline
-  pub cut : next .at ≡ next .deadline → consumed (fresh (r .window)) (next .at) true ≡ rest r part
+  pub fits : next .window < next .base + next .deadline
+  pub small : next .base + next .deadline ≤ chunkLimit
+  pub cut : next .at ≡ next .deadline
+      → cutAfter (next .window) (next .deadline) (next .base + next .deadline - next .window) (next .value) ≡ rest r part
   pub uncut : next .at < next .deadline → Further r next part
   pub whole : next .at < next .deadline → next .at < length part → next .deadline ≡ next .at + next .window
 

@@ -1,9 +1,12 @@
 -- How far a scan in steps of a whole window has come: from one byte that is the largest so far to another.
 use Prim.Native.Nat.{ℕ, _+_, _-_, _≤_, _<_}
 use mathlib.Core.Path.{_≡_}
+use mathlib.Core.Bool.{cond}
 use mathlib.Core.List.{List}
+use lib.Dec.{ltb}
 use lib.ListN.{length, getD}
 use Rattle.blocks.specs.internal.Largest.{AtMost}
+use Rattle.scan.specs.declared.run.Run.{Run}
 use Rattle.scan.specs.internal.Run.{InOrder, onward}
 
 -- from the largest byte so far, v, which stands before index i, a scan comes to a larger one, u before index j, or stays: its
@@ -26,3 +29,12 @@ pub record Settled (part : List ℕ) (w i v j : ℕ) : Type 0 where
   pub value : ℕ
   pub reached : Reached part w i v j value
   pub ends : j + w ≤ length part → AtMost part j (j + w) value
+
+-- the largest byte so far of a run that has come to index j: the byte before it, or the one that the run came with
+abbrev pub peakValue : Run → List ℕ → ℕ → ℕ
+peakValue r part j = cond (ltb (r .at) j) (getD part (j - 1) 0) (r .value)
+
+-- the run there
+unfoldable pub atPeak : Run → List ℕ → ℕ → Run
+atPeak r part j =
+    record { window = r .window; base = r .base; deadline = j + r .window; value = peakValue r part j; at = j }

@@ -1,15 +1,18 @@
 -- What a scanner's numbers say of the bytes since the last cut, and that each move keeps it true.
-use Prim.Native.Nat.{ℕ, zero, suc, _+_, _≤_, _<_, min}
+use Prim.Native.Nat.{ℕ, zero, suc, _+_, _-_, _≤_, _<_, min}
 use native.Mathlib.Omega.{arith}
 use native.Mathlib.Decide.{decLe}
-use mathlib.Core.Path.{_≡_, refl}
+use mathlib.Core.Path.{_≡_, refl, _∙_}
 use mathlib.Core.List.{List, [], _∷_, _++_}
 use lib.ListN.{length, length-append, List·getD-append}
 use lib.Seq.{getD-append-seam}
 use Rattle.scan.specs.declared.Scanner.{Scanner}
 use Rattle.scan.specs.Scanner.{fresh}
+use Rattle.scan.specs.Move.{Move, move, moved, next, rise, hold}
+use Rattle.scan.proofs.laws.Moves.{Moved, starts, rises, holds, cuts, facts}
+use Rattle.chunker.specs.Chunks.{kept, after, remaining}
 use Rattle.chunker.specs.Method.{byteAt, MaximumPoint, FirstMaximumPoint}
-use Rattle.scan.specs.Move.{rise, hold}
+use Rattle.chunker.specs.Peaks.{peakOf}
 
 -- a place of o has the same byte when bytes follow o
 pub byteAt-front : (o t : List ℕ) (q : ℕ) → q ≤ length o → byteAt (o ++ t) q ≡ byteAt o q
@@ -158,3 +161,29 @@ module _ (s : Scanner) (o : List ℕ) (b : ℕ) (t : Tracks s o) where
         };
         first = λ q l m. t .none q (maximum-front (s .window) o (b ∷ bs) q (omega arith) m);
       }
+
+  -- .. and the scanner's place and value are the peak of the chunk that it ends
+  pub tracks-peak : 1 ≤ s .count → s .place + s .window ≤ suc (s .count)
+      → record { place = s .place; value = s .value } ≡ peakOf (s .window) (o ++ (b ∷ []))
+  unfolding peakOf
+  tracks-peak h k =
+      let place : length (o ++ (b ∷ [])) - s .window ≡ s .place = omega (arith, length-append o (b ∷ [])) in
+      let byte = byteAt-front o (b ∷ []) (s .place) (omega arith) ∙ t .at in
+      rw (place, byte)
+
+  -- the scanner after each of the moves fits the bytes since the last cut
+  tracks-moved : {m : Move} → Moved s b m → Tracks (moved m s b) (kept m (o ++ (b ∷ [])))
+  tracks-moved (starts h) = tracks-rise (λ q l r. omega arith)
+  tracks-moved (rises h) = tracks-rise (λ q l r. omega (arith, t .most q r))
+  tracks-moved (holds h g k) = tracks-hold h g k
+  tracks-moved (cuts h g k) = tracks-fresh (s .window) (t .positive)
+
+  pub tracks-next : Tracks (next s b) (kept (move s b) (o ++ (b ∷ [])))
+  unfolding next
+  tracks-next = tracks-moved (facts s b)
+
+-- so does the scanner after bytes
+pub tracks-after : (s : Scanner) (o xs : List ℕ) → Tracks s o → Tracks (after s xs) (remaining s o xs)
+unfolding after remaining
+tracks-after s o [] t = t
+tracks-after s o (b ∷ bs) t = tracks-after (next s b) (kept (move s b) (o ++ (b ∷ []))) bs (tracks-next s o b t)

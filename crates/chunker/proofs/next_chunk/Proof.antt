@@ -5,6 +5,7 @@ use borrow.Author.Needs.{needs}
 use borrow.Author.Tests.{not-true, not-false}
 use Rattle.refusal.specs.declared.Refusal.the-variants.{Accepted}
 use Rattle.scan.specs.Scanner.{fresh}
+use Rattle.scan.specs.Scan.{firstChunk}
 use Rattle.chunker.specs.Scanner.{scannerGround}
 use Rattle.chunker.proofs.laws.ground.Soundness.{window-bounds, fed-accepted, fed-refused, fresh-ground, fresh-refused}
 use Rattle.scan.proofs.laws.run.Scanning.{stays}
@@ -26,7 +27,7 @@ returns c =
 returns-2 : tie.Need-returns-2
 returns-2 c =
     let job = c .before .before .before .before .args .job .now in
-    rw (fed-accepted _ job (ground (c .before))) (ap (λ f. f .consumed) (stays _ 0 job (c .if2 .taken)))
+    rw (fed-accepted _ job (ground (c .before))) (ap firstChunk (stays _ 0 job (c .if2 .taken)))
 
 first-chunk-requires : tie.Need-first-chunk-requires
 first-chunk-requires c κs =

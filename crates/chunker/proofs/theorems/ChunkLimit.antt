@@ -7,7 +7,7 @@ use mathlib.Core.List.{List, [], _∷_, _++_, List·Memᴰ}
 use lib.ListN.{length, length-append}
 use Rattle.scan.specs.declared.Scanner.{Scanner}
 use Rattle.scan.specs.Scanner.{fresh}
-use Rattle.scan.specs.Scan.{consumed, scan}
+use Rattle.scan.specs.Scan.{uncut, scan}
 use Rattle.scan.specs.Limits.{chunkLimit}
 use Rattle.scan.specs.internal.Sound.{Sound}
 use Rattle.scan.proofs.laws.Moves.{move-cut}
@@ -40,7 +40,7 @@ almostLongest w = record { window = w; count = 256 * w; place = 255 * w + 1; val
 
 module _ (w : ℕ) (allowed : windowAllowed w ≡ true) where
   -- bytes that lead to it
-  leads : (x : List ℕ) × Bytes x × (scan (fresh w) 0 x ≡ consumed (almostLongest w) (length x) false)
+  leads : (x : List ℕ) × Bytes x × (scan (fresh w) 0 x ≡ uncut (almostLongest w) (length x))
   leads =
       let b = window-bounds w allowed in
       let sound : Sound (almostLongest w) = omega (arith, b .0, b .1) in
@@ -51,11 +51,11 @@ module _ (w : ℕ) (allowed : windowAllowed w ≡ true) where
       )
 
   -- and one byte more
-  module _ (x : List ℕ) (e : scan (fresh w) 0 x ≡ consumed (almostLongest w) (length x) false) where
+  module _ (x : List ℕ) (e : scan (fresh w) 0 x ≡ uncut (almostLongest w) (length x)) where
     ended : Scanned (fresh w) [] 0 x (scan (fresh w) 0 x)
         → (length (x ++ (0 ∷ [])) ≡ 256 * w + 1) × (cutChunks (fresh w) [] (x ++ (0 ∷ [])) ≡ (x ++ (0 ∷ [])) ∷ [])
     unfolding cutChunks
-    ended (upTo j l h f c r a) = absurd (true≢false (ap (λ y. y .cut) (sym f ∙ e)))
+    ended (upTo j p l h f u c r a) = absurd (true≢false (ap (λ y. y .cut) (sym f ∙ e)))
     ended (whole f c r) =
         let b = window-bounds w allowed in
         let there : after (fresh w) x ≡ almostLongest w = ap (λ y. y .scanner) (sym f ∙ e) in

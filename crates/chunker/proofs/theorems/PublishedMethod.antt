@@ -53,7 +53,7 @@ pub divides : (w : ℕ) → 1 ≤ w → (job : List ℕ) → Division w job (cut
 divides w h job = divides-from job (fresh w) [] (tracks-fresh w h)
 
 -- there is one first maximum point
-first-unique : (w : ℕ) (xs : List ℕ) (p q : ℕ) → FirstMaximumPoint w xs p → FirstMaximumPoint w xs q → p ≡ q
+pub first-unique : (w : ℕ) (xs : List ℕ) (p q : ℕ) → FirstMaximumPoint w xs p → FirstMaximumPoint w xs q → p ≡ q
 first-unique w xs p q f g =
     elim (decLt p q) [
       | yes l ↦ absurd (g .first p l (f .maximum))

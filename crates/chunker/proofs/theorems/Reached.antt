@@ -3,7 +3,6 @@ use Prim.Native.Nat.{ℕ, zero, suc, _+_, _*_, _-_, _≤_, _<_, max}
 use native.Mathlib.Omega.{arith}
 use native.Mathlib.Nat.{zero-add, add-zero, add-suc}
 use mathlib.Core.Path.{_≡_, refl, ap}
-use mathlib.Core.Bool.{false}
 use mathlib.Core.List.{List, [], _∷_, _++_, append-assoc, append-nil}
 use lib.ListN.{length, length-append}
 use Rattle.refusal.specs.declared.Refusal.the-variants.{Accepted}
@@ -12,7 +11,7 @@ use Rattle.scan.specs.Scanner.{fresh}
 use Rattle.chunker.specs.Scanner.{scannerGround}
 use Rattle.scan.specs.Move.{Rise, move, next, rise, hold}
 use Rattle.chunker.specs.Answers.{opened, fed}
-use Rattle.scan.specs.Scan.{consumed, scan}
+use Rattle.scan.specs.Scan.{uncut, scan}
 use Rattle.scan.proofs.laws.Moves.{move-start, move-rise, move-hold}
 use Rattle.chunker.specs.Bytes.{Bytes}
 use Rattle.scan.specs.internal.Sound.{Sound}
@@ -105,7 +104,7 @@ by-count s (suc n) c h =
 
 -- every accepted scanner is what feeding some part to a fresh one leaves, with no cut
 pub reached : (s : Scanner) → s .value < 256 → scannerGround s ≡ Accepted
-    → (part : List ℕ) × Bytes part × (fed (opened (s .window) .scanner) part ≡ consumed s (length part) false)
+    → (part : List ℕ) × Bytes part × (fed (opened (s .window) .scanner) part ≡ uncut s (length part))
 unfolding scan
 reached s k e =
     let h = ground-sound s k e in

@@ -202,7 +202,7 @@ pub record Named (w : ℕ) (t : State) (job recipe : List ℕ) : Type 0 where
 pub record ToldAt (w : ℕ) (t : State) (job : List ℕ) (q : Quotation) : Type 0 where
   pub allowed : windowAllowed w ≡ true
   pub memory : memoryAllowed (t .pool) (t .directory) ≡ true
-  pub tells : Asked (holds t) (chunks w job) job q
+  pub tells : Asked w (holds t) job q
   pub short : length (chunks w job) ≤ recipeLimit
 
 module _ (s : State) (f : Fitting s) (events : List Event) (b : AllBytes events) where
@@ -219,7 +219,7 @@ module _ (s : State) (f : Fitting s) (events : List Event) (b : AllBytes events)
         record {
           allowed = subst (λ v. windowAllowed v ≡ true) window (p .window);
           memory = p .storeMemory;
-          tells = rw (r .1) (subst (λ v. Asked (holds t) (chunks v job) job (quoteIn t job (r .0))) window told);
+          tells = rw (r .1) (subst (λ v. Asked v (holds t) job (quoteIn t job (r .0))) window told);
           short = subst (λ v. length (chunks v job) ≤ recipeLimit) window few;
         }
 

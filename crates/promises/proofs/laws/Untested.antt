@@ -34,7 +34,7 @@ ground s job recipe =
 unfoldable pub quoteOf : State → List ℕ → List ℕ → Quotation
 quoteOf s job recipe =
     cond (accepted (ground s job recipe))
-    (walked (holds s) (length job) recipe (jobWalk (s .head) (s .pool) (s .directory) recipe job))
+    (walked (s .head .window) job (holds s) recipe (jobWalk (s .head) (s .pool) (s .directory) recipe job))
     (record { answer = refused (ground s job recipe); recipe = recipe })
 
 -- a take

@@ -1,4 +1,4 @@
--- Demands 2 and 3, the ceiling of several fields, the saving and the index, of a C program's calls on one store.
+-- Demands 2 and 3, the ceiling of several fields, the saving, the counts of cuts and the index, of a C program's calls on one store.
 use Prim.Native.Nat.{ℕ, zero, suc, _≤_, _<_}
 use native.Mathlib.Omega.{arith}
 use mathlib.Core.Path.{_≡_, refl, ap, ap₂, sym, _∙_, subst}
@@ -9,6 +9,7 @@ use borrow.Author.Tests.{eq-eqb}
 use Rattle.refusal.specs.Number.{numberOf, accepted}
 use Rattle.chunker.specs.Scanner.{windowAllowed}
 use Rattle.chunker.specs.KeptMaximum.{KeptMaximum}
+use Rattle.cut_counts.specs.declared.CutCounts.{CutCounts}
 use Rattle.store.specs.Opening as store
 use Rattle.admission.specs.Quote.{Quotation}
 use Rattle.admission.proofs.laws.Takes.{untouched}
@@ -20,6 +21,7 @@ use Rattle.promises.proofs.laws.Fields.{old-joined, revision-joined}
 use Rattle.promises.specs.Fields.{Field, oldJob, revision, AllKept, ceilingOf, joined}
 use Rattle.promises.proofs.theorems.FirstAppearances.{first-appearances}
 use Rattle.promises.proofs.theorems.Saving.{saves}
+use Rattle.promises.proofs.theorems.CutCounts.{counts-cuts}
 use Rattle.promises.proofs.theorems.GivesBack.{gives-back}
 use Rattle.promises.proofs.theorems.SeveralFields.{several-fields}
 use Rattle.promises.proofs.theorems.Promise.{promise}
@@ -29,7 +31,7 @@ use Rattle.numbers.specs.Storing.{headOf, headNumbers, countsOf}
 use Rattle.hirunvel.specs.Storing.{StoreQuotation, storeOpened, storeQuoted, storeTaken}
 use Rattle.hirunvel.specs.Rebuilding.{jobRebuilt}
 use Rattle.promises.specs.Calls.{Memory, opened, quoteCall, takeCall, toldBy, leaves, chunksOf, before, chunksBefore, TakesCall, takesCall, AsksCall, quoteCalled, takeCalled}
-use Rattle.promises.specs.Calls.{TakenCall, AskedCall, recipeOf, chargeOf, Counts, Saves, GivesBack, rebuild, PromisedCalls}
+use Rattle.promises.specs.Calls.{TakenCall, AskedCall, recipeOf, chargeOf, Counts, Saves, CountsCuts, GivesBack, rebuild, PromisedCalls}
 
 -- a store's state as a C program keeps it
 abbrev pub memoryOf : State → Memory
@@ -146,6 +148,12 @@ module _ (w : ℕ) (allowed : storeOpened w .refusal ≡ 0) (pool directory : Li
   saved j job c a =
       let t = asked-at a in
       rw (t .2, chunks-before j) (ap (λ z. z ∷ []) (saves w pool directory calls b j job (t .0) (t .1)))
+
+  -- the counts of cuts are the job's
+  pub cuts-counted : (j : ℕ) (job : List ℕ) (c : StoreQuotation) → AskedCall m calls j job c → CountsCuts w job c
+  cuts-counted j job c a =
+      let t = asked-at a in
+      rw (t .2) (ap (λ (n : CutCounts). n .low ∷ n .printable ∷ n .high ∷ []) (counts-cuts w pool directory calls b j job (t .0) (t .1)))
 
   -- demand 2: after any later call, the recipe that a take left gives the job back
   pub rebuilds : (i : ℕ) (job : List ℕ) (c : StoreQuotation) → TakenCall m calls i job c → (j : ℕ) → i < j

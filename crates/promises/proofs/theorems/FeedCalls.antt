@@ -1,7 +1,8 @@
--- Demand 2 of a C program that feeds a job in parts: the cuts are those of the published method for every splitting.
+-- Demand 2 of a C program that feeds a job in parts: the cuts are those of the published method for every splitting, and so are
+-- the peaks that are told.
 use Prim.Native.Nat.{ℕ, _<_}
 use native.Mathlib.Omega.{arith}
-use mathlib.Core.Path.{_≡_, refl, ap, sym, _∙_}
+use mathlib.Core.Path.{_≡_, refl, ap, ap₂, sym, _∙_}
 use mathlib.Core.Bool.{Bool, true, false, cond, _&&_, and-eq-true-iff, false≢true}
 use mathlib.Core.List.{List, [], _∷_}
 use lib.Dec.{leb}
@@ -19,9 +20,11 @@ use Rattle.chunker.specs.Scanner.{windowAllowed, windowGround, sound, scannerGr
 use Rattle.chunker.specs.Answers as chunker
 use Rattle.chunker.specs.Answers.{fed, finished}
 use Rattle.chunker.specs.Chunks.{chunks}
+use Rattle.chunker.specs.Peaks.{Peak, toldPeak, peaks}
 use Rattle.chunker.specs.Splitting as splitting
 use Rattle.chunker.specs.Splitting.{joined, Feeding}
 use Rattle.chunker.proofs.laws.ground.Soundness.{ground-sound, fed-ground, fed-accepted, scan-sound, bytes-parts, bytes-append, bytes-drop, opened-fresh}
+use Rattle.chunker.proofs.theorems.Peaks.{untold}
 use Rattle.chunker.proofs.theorems.EverySplitting.{every-splitting, only-splitting}
 use Rattle.numbers.specs.Scanning.{numbersOf, scannerOf, told}
 use Rattle.hirunvel.specs.Scanning.{numbersGround, scannerOpened, scannerFed, scannerFinished}
@@ -59,8 +62,18 @@ feed-called n part r = by-test (accepted (numbersGround n)) refl
     by-test false e = absurd (false≢true (sym e ∙ eq-eqb (numberOf (numbersGround n)) 0 (rw e at r)))
 
 -- a cut is told by 1, and none by 0
-told-cut : (f : Fed) (n m : ℕ) → told f ≡ n ∷ m ∷ [] → (f .consumed ≡ n) × (cond (f .cut) 1 0 ≡ m)
-told-cut f n m e = (ap (λ l. getD l 0 0) e, ap (λ l. getD l 1 0) e)
+record Tells (f : Fed) (n m : ℕ) (p : Peak) : Type 0 where
+  consumed : f .consumed ≡ n
+  cut : cond (f .cut) 1 0 ≡ m
+  peak : toldPeak f ≡ p
+
+tells-by : (f : Fed) (n m : ℕ) (p : Peak) → told f ≡ n ∷ m ∷ p .place ∷ p .value ∷ [] → Tells f n m p
+tells-by f n m p e =
+    record {
+      consumed = ap (λ l. getD l 0 0) e;
+      cut = ap (λ l. getD l 1 0) e;
+      peak = ap₂ (λ (x y : ℕ). record { place = x; value = y }) (ap (λ l. getD l 2 0) e) (ap (λ l. getD l 3 0) e);
+    }
 
 one-cut : (t : Bool) → _≡_ {A = ℕ} (cond t 1 0) 1 → t ≡ true
 one-cut true e = refl
@@ -82,19 +95,20 @@ finish-called n r = by-test (accepted (numbersGround n)) refl
     by-test false e = absurd (false≢true (sym e ∙ eq-eqb (numberOf (numbersGround n)) 0 (rw e at r)))
 
 -- the calls are a feeding
-pub calls-feeding : {n since : List ℕ} {parts cs : List (List ℕ)} → FeedCalls n since parts cs
-    → Feeding (scannerOf n) since parts cs
-calls-feeding (cutting {n} {since} {part} {parts} {cs} {consumed} r t g) =
+pub calls-feeding : {n since : List ℕ} {parts cs : List (List ℕ)} {ps : List Peak} → FeedCalls n since parts cs ps
+    → Feeding (scannerOf n) since parts cs ps
+calls-feeding (cutting {n} {since} {part} {parts} {cs} {ps} {consumed} {p} r t g) =
     let c = feed-called n part r in
     let f = fed (scannerOf n) part in
-    let told = told-cut f consumed 1 (sym (c .tells) ∙ t) in
-    let rest = rw (c .scanner, ← (told .0)) at (calls-feeding g) in
-    rw (← (told .0)) (splitting.cutting {s = scannerOf n} {part = part} (c .refusal) (one-cut (f .cut) (told .1)) rest)
+    let told = tells-by f consumed 1 p (sym (c .tells) ∙ t) in
+    let rest = rw (c .scanner, ← (told .consumed)) at (calls-feeding g) in
+    rw (← (told .consumed), ← (told .peak))
+    (splitting.cutting {s = scannerOf n} {part = part} (c .refusal) (one-cut (f .cut) (told .cut)) rest)
 calls-feeding (passing {n} {since} {part} {parts} {cs} r t g) =
     let c = feed-called n part r in
     let f = fed (scannerOf n) part in
-    let told = told-cut f (length part) 0 (sym (c .tells) ∙ t) in
-    splitting.passing {s = scannerOf n} {part = part} (c .refusal) (no-cut (f .cut) (told .1)) (told .0)
+    let told = tells-by f (length part) 0 (record { place = 0; value = 0 }) (sym (c .tells) ∙ t) in
+    splitting.passing {s = scannerOf n} {part = part} (c .refusal) (no-cut (f .cut) (told .cut)) (told .consumed)
     (rw (c .scanner) at (calls-feeding g))
 calls-feeding (finishing {n} {since} r t) =
     let c = finish-called n r in
@@ -120,22 +134,26 @@ finish-accepts s e = by-test (accepted (scannerGround s)) refl
     by-test false a = rw a at e
 
 -- and a feeding is calls, as long as bytes are fed
-pub feeding-calls : {s : Scanner} {since : List ℕ} {parts cs : List (List ℕ)} → Feeding s since parts cs
-    → s .value < 256 → Bytes (joined parts) → FeedCalls (numbersOf s) since parts cs
+pub feeding-calls : {s : Scanner} {since : List ℕ} {parts cs : List (List ℕ)} {ps : List Peak} → Feeding s since parts cs ps
+    → s .value < 256 → Bytes (joined parts) → FeedCalls (numbersOf s) since parts cs ps
 unfolding scannerFed scannerFinished finished
-feeding-calls (splitting.cutting {s} {since} {part} {parts} {cs} r c g) h k =
+feeding-calls (splitting.cutting {s} {since} {part} {parts} {cs} {ps} r c g) h k =
     let accepts = sym (fed-ground s part) ∙ r in
     let ground = numbers-of s h ∙ accepts in
     let b = bytes-parts part (joined parts) k in
     let f = fed s part in
     let rest = feeding-calls g (value-byte s part h (b .0) accepts)
     (bytes-append (drop (f .consumed) part) (joined parts) (bytes-drop (f .consumed) part (b .0)) (b .1)) in
-    cutting {n = numbersOf s} {since = since} {part = part} {parts = parts} {cs = cs} {consumed = f .consumed} (rw ground) (rw (ground, c)) (rw ground rest)
-feeding-calls (splitting.passing {s} {since} {part} {parts} {cs} r c n g) h k =
+    cutting {n = numbersOf s} {since = since} {part = part} {parts = parts} {cs = cs} {ps = ps} {consumed = f .consumed} {p = toldPeak f} (rw ground)
+    (rw (ground, c)) (rw ground rest)
+feeding-calls (splitting.passing {s} {since} {part} {parts} {cs} {ps} r c n g) h k =
     let accepts = sym (fed-ground s part) ∙ r in
     let ground = numbers-of s h ∙ accepts in
     let b = bytes-parts part (joined parts) k in
-    passing {n = numbersOf s} {since = since} {part = part} {parts = parts} {cs = cs} (rw ground) (rw (ground, c, n))
+    let none = untold s part c in
+    let place : fed s part .place ≡ 0 = ap (λ p. p .place) none in
+    let value : fed s part .value ≡ 0 = ap (λ p. p .value) none in
+    passing {n = numbersOf s} {since = since} {part = part} {parts = parts} {cs = cs} {ps = ps} (rw ground) (rw (ground, c, n, place, value))
     (rw ground (feeding-calls g (value-byte s part h (b .0) accepts) (b .1)))
 feeding-calls (splitting.finishing {s} {since} r n) h k =
     let ground = numbers-of s h ∙ finish-accepts s r in
@@ -151,16 +169,16 @@ module _ (w : ℕ) (allowed : scannerOpened w .refusal ≡ 0) where
       by-test true e = refl
       by-test false e = absurd (let z : _≡_ {A = ℕ} 1 0 = rw e at allowed in omega arith)
 
-  -- feeding the parts of a job, however it is split, gives the chunks of the job
+  -- feeding the parts of a job, however it is split, gives the chunks of the job, and tells their peaks
   pub every-splitting-called : (parts : List (List ℕ)) → Bytes (joined parts)
-      → FeedCalls (scannerOpened w .scanner) [] parts (chunks w (joined parts))
+      → FeedCalls (scannerOpened w .scanner) [] parts (chunks w (joined parts)) (peaks w (joined parts))
   unfolding scannerOpened
   every-splitting-called parts k =
       let byte : chunker.opened w .scanner .value < 256 = rw (opened-fresh w window) (omega arith) in
       feeding-calls (every-splitting w window parts k) byte k
 
   -- and no others
-  pub only-splitting-called : (parts cs : List (List ℕ)) → FeedCalls (scannerOpened w .scanner) [] parts cs
-      → cs ≡ chunks w (joined parts)
+  pub only-splitting-called : (parts cs : List (List ℕ)) (ps : List Peak) → FeedCalls (scannerOpened w .scanner) [] parts cs ps
+      → (cs ≡ chunks w (joined parts)) × (ps ≡ peaks w (joined parts))
   unfolding scannerOpened
-  only-splitting-called parts cs g = only-splitting w window parts cs (calls-feeding g)
+  only-splitting-called parts cs ps g = only-splitting w window parts cs ps (calls-feeding g)

@@ -27,8 +27,8 @@ unfolding next entriesFrom table sumFrom chain
 chains-of = (refl, refl, refl, refl)
 
 -- what the takes of both come to: only 16 14 is new in the second
-pub both-told : (counts 1 [] firstJob ≡ (Accepted, 0 ∷ 1 ∷ 2 ∷ [], 6, 0, negsuc 71))
-    × (counts 1 (firstJob ∷ []) secondJob ≡ (Accepted, 2 ∷ 3 ∷ [], 2, 2, negsuc 69))
+pub both-told : (counts 1 [] firstJob ≡ (Accepted, 0 ∷ 1 ∷ 2 ∷ [], 6, 0, negsuc 71, 3, 0, 0))
+    × (counts 1 (firstJob ∷ []) secondJob ≡ (Accepted, 2 ∷ 3 ∷ [], 2, 2, negsuc 69, 2, 0, 0))
 unfolding computed
 both-told = (counts-as 1 [] firstJob _ tt refl, counts-as 1 (firstJob ∷ []) secondJob _ (omega arith) refl)
 

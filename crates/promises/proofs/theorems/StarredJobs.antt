@@ -14,6 +14,8 @@ use Rattle.scan.specs.Scanner.{fresh}
 use Rattle.chunker.specs.Scanner.{windowAllowed}
 use Rattle.scan.specs.Move.{move, next}
 use Rattle.chunker.specs.Chunks.{cutChunks, remaining, chunks}
+use Rattle.chunker.specs.Peaks.{Peak, peakOf, peaks}
+use Rattle.cut_counts.specs.CutCounts.{countsOf, cutCounts}
 use Rattle.chunker.specs.Method.{byteAt, FirstMaximumPoint}
 use Rattle.chunker.specs.KeptMaximum.{KeptMaximum}
 use Rattle.store.specs.Memory.{chunksFrom}
@@ -38,10 +40,14 @@ risingFrom b (suc n) = b ∷ risingFrom (suc b) n
 abbrev pub rising : List ℕ
 rising = risingFrom 0 256
 
--- the lengths of the chunks that cuts end, in order, and the number of bytes that remain
-unfoldable pub lengths : ℕ → List ℕ → List ℕ × ℕ
-unfolding cutChunks remaining move next
-lengths w job = (map length (cutChunks (fresh w) [] job), length (remaining (fresh w) [] job))
+-- the lengths of the chunks that cuts end, in order, their peaks, and the number of bytes that remain
+unfoldable pub cutting : ℕ → List ℕ → List ℕ × List Peak × ℕ
+unfolding cutChunks remaining move next peakOf peaks
+cutting w job = (map length (cutChunks (fresh w) [] job), peaks w job, length (remaining (fresh w) [] job))
+
+-- the peak at a place, with its value
+abbrev pub peak : ℕ → ℕ → Peak
+peak p v = record { place = p; value = v }
 
 -- the take of a job with a lent recipe of 8 numbers
 abbrev pub handed : List ℕ → Event
@@ -51,37 +57,40 @@ handed job = taking job (replicate 8 0)
 abbrev pub storeAfter : ℕ → List (List ℕ) → State
 storeAfter w jobs = before (start w (replicate 32 0) (replicate 16 0)) (map handed jobs) (length jobs)
 
--- what is told of a job: refusal, recipe, new bytes, repeated bytes and saving
-abbrev pub told : Quotation → Refusal × List ℕ × ℕ × ℕ × ℤ
+-- what is told of a job: refusal, recipe, new bytes, repeated bytes, saving, and the cuts of low, printable and high values
+abbrev pub Told : Type 0
+Told = Refusal × List ℕ × ℕ × ℕ × ℤ × ℕ × ℕ × ℕ
+
+abbrev pub told : Quotation → Told
 told q =
     let a = q .answer in
-    (a .refusal, recipeOf q, a .«new_bytes», a .«repeated_bytes», a .saving)
+    (a .refusal, recipeOf q, a .«new_bytes», a .«repeated_bytes», a .saving, a .cuts .low, a .cuts .printable, a .cuts .high)
 
 -- what the take of a further job comes to
-unfoldable pub counts : ℕ → List (List ℕ) → List ℕ → Refusal × List ℕ × ℕ × ℕ × ℤ
+unfoldable pub counts : ℕ → List (List ℕ) → List ℕ → Told
 counts w jobs job = told (quotationOf (takeIn (storeAfter w jobs) job (replicate 8 0)))
 
 -- the same without the test of the index
 -- (to unfold it is to unfold all that a quote and a take are computed with)
-unfoldable pub computed : ℕ → List (List ℕ) → List ℕ → Refusal × List ℕ × ℕ × ℕ × ℤ
+unfoldable pub computed : ℕ → List (List ℕ) → List ℕ → Told
 unfolding
-    lengths windowAllowed chunks chunksFrom same number has gain added repeated numbers laidOut fits memoryAllowed recipeAllowed
+    cutting countsOf cutCounts windowAllowed chunks chunksFrom same number has gain added repeated numbers laidOut fits memoryAllowed recipeAllowed
     jobAllowed chunkGround walk packets savingOf ground quoteOf takeOf untested.leaves untested.before
 computed w jobs job =
     told (toldAt w (replicate 32 0) (replicate 16 0) (map handed jobs) (length jobs) job (replicate 8 0))
 
 -- so the counts can be computed without it
-pub counts-as : (w : ℕ) (jobs : List (List ℕ)) (job : List ℕ) (expected : Refusal × List ℕ × ℕ × ℕ × ℤ)
+pub counts-as : (w : ℕ) (jobs : List (List ℕ)) (job : List ℕ) (expected : Told)
     → AllBytes (map handed jobs) → computed w jobs job ≡ expected → counts w jobs job ≡ expected
 unfolding counts computed
 counts-as w jobs job expected b e =
     ap told (told-by-take w (replicate 32 0) (replicate 16 0) (map handed jobs) b (length jobs) job (replicate 8 0)) ∙ e
 
 pub data Row : Type 0 where
-  -- the lengths of the chunks of a job
-  cutting : (w : ℕ) (job : List ℕ) (expected : List ℕ × ℕ) → Row
+  -- the lengths and the peaks of the chunks of a job
+  cut : (w : ℕ) (job : List ℕ) (expected : List ℕ × List Peak × ℕ) → Row
   -- the counts of a job that comes after others
-  counting : (w : ℕ) (jobs : List (List ℕ)) (job : List ℕ) (expected : Refusal × List ℕ × ℕ × ℕ × ℤ) → Row
+  counting : (w : ℕ) (jobs : List (List ℕ)) (job : List ℕ) (expected : Told) → Row
   -- place p is the first maximum point of a chunk, by the published method
   peaking : (w : ℕ) (chunk : List ℕ) (p : ℕ) → Row
   -- place k of an ending is one from which jobs line up
@@ -90,7 +99,7 @@ pub data Row : Type 0 where
   notKept : (w : ℕ) (ending : List ℕ) (k : ℕ) → Row
 
 abbrev pub Holds : Row → Type 0
-Holds (cutting w job expected) = lengths w job ≡ expected
+Holds (cut w job expected) = cutting w job ≡ expected
 Holds (counting w jobs job expected) = counts w jobs job ≡ expected
 Holds (peaking w chunk p) = FirstMaximumPoint w chunk p
 Holds (kept w ending k) = KeptMaximum w ending k
@@ -103,24 +112,24 @@ pub data AllHold : List Row → Type 0 where
 
 abbrev pub rows : List Row
 rows =
-    cutting 1 (5 ∷ 5 ∷ 5 ∷ 5 ∷ []) (2 ∷ 2 ∷ [], 0)
-    ∷ cutting 2 (3 ∷ 1 ∷ 2 ∷ []) (3 ∷ [], 0)
-    ∷ cutting 2 (3 ∷ 1 ∷ []) ([], 2)
-    ∷ cutting 2 (3 ∷ 1 ∷ 3 ∷ []) (3 ∷ [], 0)
+    cut 1 (5 ∷ 5 ∷ 5 ∷ 5 ∷ []) (2 ∷ 2 ∷ [], peak 1 5 ∷ peak 1 5 ∷ [], 0)
+    ∷ cut 2 (3 ∷ 1 ∷ 2 ∷ []) (3 ∷ [], peak 1 3 ∷ [], 0)
+    ∷ cut 2 (3 ∷ 1 ∷ []) ([], [], 2)
+    ∷ cut 2 (3 ∷ 1 ∷ 3 ∷ []) (3 ∷ [], peak 1 3 ∷ [], 0)
     ∷ peaking 2 (3 ∷ 1 ∷ 3 ∷ []) 1
-    ∷ cutting 2 (3 ∷ 1 ∷ 4 ∷ 1 ∷ 1 ∷ []) (5 ∷ [], 0)
-    ∷ cutting 2 (1 ∷ 2 ∷ 3 ∷ 4 ∷ []) ([], 4)
-    ∷ cutting 1 rising ([], 256)
-    ∷ cutting 1 (rising ++ (0 ∷ [])) (257 ∷ [], 0)
-    ∷ counting 2 [] (3 ∷ 1 ∷ 2 ∷ 3 ∷ 1 ∷ 2 ∷ 7 ∷ []) (Accepted, 0 ∷ 0 ∷ 1 ∷ [], 4, 3, negsuc 68)
-    ∷ counting 2 [] (9 ∷ []) (Accepted, 0 ∷ [], 1, 0, negsuc 71)
-    ∷ counting 2 [] (5 ∷ 1 ∷ 1 ∷ 9 ∷ 2 ∷ 3 ∷ 4 ∷ []) (Accepted, 0 ∷ 1 ∷ 2 ∷ [], 7, 0, negsuc 71)
+    ∷ cut 2 (3 ∷ 1 ∷ 4 ∷ 1 ∷ 1 ∷ []) (5 ∷ [], peak 3 4 ∷ [], 0)
+    ∷ cut 2 (1 ∷ 2 ∷ 3 ∷ 4 ∷ []) ([], [], 4)
+    ∷ cut 1 rising ([], [], 256)
+    ∷ cut 1 (rising ++ (0 ∷ [])) (257 ∷ [], peak 256 255 ∷ [], 0)
+    ∷ counting 2 [] (3 ∷ 1 ∷ 2 ∷ 3 ∷ 1 ∷ 2 ∷ 7 ∷ []) (Accepted, 0 ∷ 0 ∷ 1 ∷ [], 4, 3, negsuc 68, 2, 0, 0)
+    ∷ counting 2 [] (9 ∷ []) (Accepted, 0 ∷ [], 1, 0, negsuc 71, 0, 0, 0)
+    ∷ counting 2 [] (5 ∷ 1 ∷ 1 ∷ 9 ∷ 2 ∷ 3 ∷ 4 ∷ []) (Accepted, 0 ∷ 1 ∷ 2 ∷ [], 7, 0, negsuc 71, 2, 0, 0)
     ∷ counting 2 ((5 ∷ 1 ∷ 1 ∷ 9 ∷ 2 ∷ 3 ∷ 4 ∷ []) ∷ []) (6 ∷ 6 ∷ 1 ∷ 1 ∷ 9 ∷ 2 ∷ 3 ∷ 4 ∷ [])
-    (Accepted, 3 ∷ 4 ∷ 2 ∷ [], 7, 1, negsuc 70)
+    (Accepted, 3 ∷ 4 ∷ 2 ∷ [], 7, 1, negsuc 70, 2, 0, 0)
     ∷ kept 2 (1 ∷ 1 ∷ 9 ∷ 2 ∷ 3 ∷ 4 ∷ []) 3
-    ∷ cutting 2 (9 ∷ 1 ∷ 9 ∷ 2 ∷ 3 ∷ []) (3 ∷ [], 2)
+    ∷ cut 2 (9 ∷ 1 ∷ 9 ∷ 2 ∷ 3 ∷ []) (3 ∷ [], peak 1 9 ∷ [], 2)
     ∷ notKept 2 (9 ∷ 1 ∷ 9 ∷ 2 ∷ 3 ∷ []) 3
-    ∷ cutting 2 (5 ∷ 1 ∷ 1 ∷ 1 ∷ 2 ∷ 1 ∷ 1 ∷ 1 ∷ []) (3 ∷ 4 ∷ [], 1)
+    ∷ cut 2 (5 ∷ 1 ∷ 1 ∷ 1 ∷ 2 ∷ 1 ∷ 1 ∷ 1 ∷ []) (3 ∷ 4 ∷ [], peak 1 5 ∷ peak 2 2 ∷ [], 1)
     ∷ []
 
 -- what is said of a place holds of the n places from place a on
@@ -166,7 +175,7 @@ pub premise-not-met : KeptMaximum 2 (9 ∷ 1 ∷ 9 ∷ 2 ∷ 3 ∷ []) 3 → ⊥
 premise-not-met m = omega (arith, m .larger 1 (omega arith) (omega arith))
 
 pub starred : AllHold rows
-unfolding lengths computed
+unfolding cutting computed
 starred =
     refl
     and refl

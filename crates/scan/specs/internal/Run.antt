@@ -44,9 +44,16 @@ pub record Further (r next : Run) (part : List ℕ) : Type 0 where
   pub going : Going next part
   pub gives : rest next part ≡ rest r part
 
--- a run that sets out on a part, with the answer that the scanner gives; that of a fresh scanner has a whole window to come
+-- a run that is past the first byte of a chunk, with a whole window to come
+pub record PastFirst (r : Run) (part : List ℕ) : Type 0 where
+  pub base : r .base ≡ 0
+  pub at : r .at ≡ 1
+  pub value : r .value ≡ getD part 0 0
+  pub whole : r .deadline ≡ r .at + r .window
+
+-- a run that sets out on a part, with the answer that the scanner gives; that of a fresh scanner is past its first byte
 pub record Begun (s : Scanner) (r : Run) (part : List ℕ) : Type 0 where
   pub window : r .window ≡ s .window
   pub going : Going r part
   pub gives : rest r part ≡ scan s 0 part
-  pub whole : s .count ≡ 0 → r .deadline ≡ r .at + r .window
+  pub fresh : s .count ≡ 0 → PastFirst r part

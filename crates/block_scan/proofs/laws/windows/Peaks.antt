@@ -4,14 +4,12 @@ use native.Mathlib.Omega.{arith}
 use native.Mathlib.Nat.{le-refl}
 use native.Mathlib.Decide.{decLt}
 use mathlib.Core.Path.{_≡_, refl, sym, ap, subst, _∙_}
-use mathlib.Core.Bool.{true}
 use mathlib.Core.List.{List}
 use lib.ListN.{length, getD}
 use Rattle.blocks.specs.declared.Peak.{Peak}
 use Rattle.blocks.specs.internal.Largest.{Exceeded, AtMost, FirstLargest}
 use Rattle.blocks.proofs.laws.Largest.{at-one}
-use Rattle.scan.specs.Scanner.{fresh}
-use Rattle.scan.specs.Scan.{consumed}
+use Rattle.scan.specs.Scan.{cutAfter}
 use Rattle.scan.specs.internal.Run.{InOrder, onward}
 use Rattle.scan.proofs.laws.run.Underway.{Underway, rises-to, cuts-to}
 use Rattle.block_scan.specs.internal.Peaks.{Reached, Settled}
@@ -107,16 +105,19 @@ settled-value {i} {j} s u moved kept =
       | no c ↦ s .reached .kept (omega (arith, s .reached .on)) ∙ sym (kept c)
     ]
 
--- a scan with a whole window to come, which has settled
-module _ {part : List ℕ} {w base d v i j : ℕ} (s : Settled part w i v j) (o : InOrder part w base d v i) (whole : d ≡ i + w) where
+-- a scan with a whole window to come, which has settled with u as the largest byte so far
+module _ {part : List ℕ} {w base d v i j : ℕ} (s : Settled part w i v j) (o : InOrder part w base d v i) (whole : d ≡ i + w)
+    (u : ℕ) (is : s .value ≡ u) where
   start : InOrder part w base (i + w) v i
   start = rw whole at o
 
   -- it is under way from there
-  pub settled-under : Underway part w base (j + w) (s .value) j (onward part w base d v i)
-  settled-under = rw whole (record { order = s .reached .order base start; gives = s .reached .gives base start })
+  pub settled-under : Underway part w base (j + w) u j (onward part w base d v i)
+  settled-under =
+      subst (λ x. Underway part w base (j + w) x j (onward part w base d v i)) is
+      (rw whole (record { order = s .reached .order base start; gives = s .reached .gives base start }))
 
   -- the chunk ends after the window, if the part holds it
-  pub settled-cuts : (e : ℕ) → e ≡ j + w → e ≤ length part → consumed (fresh w) e true ≡ onward part w base d v i
+  pub settled-cuts : (e : ℕ) → e ≡ j + w → e ≤ length part → cutAfter w e (base + e - w) u ≡ onward part w base d v i
   settled-cuts e same inside =
-      cuts-to settled-under e same inside (λ q l r. s .ends (omega arith) .bound q l (omega arith))
+      cuts-to settled-under e same inside (λ q l r. omega (arith, is, s .ends (omega arith) .bound q l (omega arith)))

@@ -14,7 +14,7 @@ use Rattle.scan.specs.declared.Fed.{Fed}
 use Rattle.scan.specs.Scanner.{fresh}
 use Rattle.chunker.specs.Scanner.{windowAllowed, untouched, consistent, sound, scannerGround, windowGround}
 use Rattle.scan.specs.Move.{Move, Rise, Hold, Cut, move, next}
-use Rattle.chunker.specs.Answers.{opened, fed}
+use Rattle.chunker.specs.Answers.{opened, unmoved, fed}
 use Rattle.scan.specs.Scan.{stopAtCut, scan}
 use Rattle.chunker.specs.Bytes.{Bytes}
 use Rattle.chunker.specs.Chunks.{after}
@@ -104,7 +104,8 @@ pub scan-sound : (s : Scanner) (n : ℕ) (xs : List ℕ) → Bytes xs → Sound 
 unfolding scan
 scan-sound s n [] k h = h
 scan-sound s n (b ∷ bs) k h =
-    let g = next-sound s b (k .0) h in either (move s b) _ _ g (scan-sound (next s b) (suc n) bs (k .1) g)
+    either (move s b) _ _ (fresh-sound (s .window) (h .low) (h .high))
+    (scan-sound (next s b) (suc n) bs (k .1) (next-sound s b (k .0) h))
 
 -- an accepted scanner reads the part
 pub fed-accepted : (s : Scanner) (part : List ℕ) → scannerGround s ≡ Accepted → fed s part ≡ scan s 0 part
@@ -113,7 +114,7 @@ fed-accepted s part e = rw e
 
 -- any other is handed back
 pub fed-refused : (s : Scanner) (part : List ℕ) → accepted (scannerGround s) ≡ false
-    → fed s part ≡ record { refusal = scannerGround s; scanner = s; consumed = 0; cut = false }
+    → fed s part ≡ unmoved (scannerGround s) s
 unfolding fed
 fed-refused s part e = rw e
 
@@ -154,6 +155,6 @@ fresh-refused w e = rw e
 
 -- .. by ground 1
 pub fed-window : (w : ℕ) (part : List ℕ) → windowAllowed w ≡ false
-    → fed (fresh w) part ≡ record { refusal = Window; scanner = fresh w; consumed = 0; cut = false }
+    → fed (fresh w) part ≡ unmoved Window (fresh w)
 unfolding fed scannerGround
 fed-window w part e = rw e

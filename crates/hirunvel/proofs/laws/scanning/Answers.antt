@@ -48,7 +48,7 @@ module _ (n : List ℕ) (over : 255 < getD n 3 0) where
   -- a feed over four numbers of which the last is over 255
   pub fed-over : (part : List ℕ) →
       scannerFed n part
-      ≡ record { refusal = numberOf (overGround (getD n 0 0)); scanner = n; fed = 0 ∷ 0 ∷ [] }
+      ≡ record { refusal = numberOf (overGround (getD n 0 0)); scanner = n; fed = 0 ∷ 0 ∷ 0 ∷ 0 ∷ [] }
   unfolding scannerFed numbersGround
   fed-over part = rw (lt-leb (getD n 3 0) 255 over, over-refused (getD n 0 0))
 

@@ -1,9 +1,11 @@
 -- `hirunvel::scanning::hirunvel_scanner_feed` meets its contract.
-use mathlib.Core.Path.{_≡_, sym, _∙_}
+use mathlib.Core.Path.{_≡_, sym, ap, _∙_}
 use mathlib.Core.Logic.{⊎-elim}
 use borrow.Author.Needs.{needs}
 use borrow.Author.Tests.{not-false}
+use Rattle.chunker.proofs.laws.NextChunk.{rest-whole}
 use Rattle.numbers.specs.Scanning.{numbersOf}
+use Rattle.hirunvel.specs.Scanning.{scannerFed}
 use Rattle.hirunvel.proofs.laws.scanning.Answers.{fed-starts, cut-keeps}
 use Rattle.hirunvel.proofs.scanning.hirunvel_scanner_feed.Statement.{statement}
 use Rattle.hirunvel.proofs.scanning.hirunvel_scanner_feed.Tie as tie
@@ -11,20 +13,42 @@ use Rattle.hirunvel.proofs.scanning.hirunvel_scanner_feed.Tie as tie
 array-read-if1 : tie.Need-array-read-if1
 array-read-if1 c = search needs
 
+sub-feed-general : tie.Need-sub-feed-general
+sub-feed-general c = search needs
+
+part-feed-general-start : tie.Need-part-feed-general-start
+part-feed-general-start c = search needs
+
+part-feed-general-end : tie.Need-part-feed-general-end
+part-feed-general-end c = search needs
+
 feed-general-requires : tie.Need-feed-general-requires
 feed-general-requires c κs = search needs
 
 returns : tie.Need-returns
-returns c = c .feed-general .ensures
+returns c =
+    let a = c .before .before .before .before .before .before .before .args in
+    c .feed-general .ensures ∙ ap (scannerFed (a .scanner .now)) (rest-whole (a .part .now) 0)
 
 untouched-requires : tie.Need-untouched-requires
 untouched-requires c κs = search needs
+
+sub-feed-general-2 : tie.Need-sub-feed-general-2
+sub-feed-general-2 c = search needs
+
+part-feed-general-start-2 : tie.Need-part-feed-general-start-2
+part-feed-general-start-2 c = search needs
+
+part-feed-general-end-2 : tie.Need-part-feed-general-end-2
+part-feed-general-end-2 c = search needs
 
 feed-general-requires-2 : tie.Need-feed-general-requires-2
 feed-general-requires-2 c κs = search needs
 
 returns-2 : tie.Need-returns-2
-returns-2 c = c .feed-general2 .ensures
+returns-2 c =
+    let a = c .before .before .before .before .before .before .before .before .before .args in
+    c .feed-general2 .ensures ∙ ap (scannerFed (a .scanner .now)) (rest-whole (a .part .now) 0)
 
 array-read-feed-fresh : tie.Need-array-read-feed-fresh
 array-read-feed-fresh c = search needs
@@ -59,9 +83,15 @@ hirunvel-scanner-feed-spec =
     tie.close
     (tie.spec
     array-read-if1
+    sub-feed-general
+    part-feed-general-start
+    part-feed-general-end
     feed-general-requires
     returns
     untouched-requires
+    sub-feed-general-2
+    part-feed-general-start-2
+    part-feed-general-end-2
     feed-general-requires-2
     returns-2
     array-read-feed-fresh

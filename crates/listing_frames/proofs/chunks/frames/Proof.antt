@@ -33,8 +33,8 @@ next-chunk-requires c κs = search needs
 
 -- an iteration takes the first chunk of what the job has left
 found : (c : tie.After-next-chunk Inv-loop μ-loop) → let start = c .before .before .before .before .before .before .before in let loop = c .before .before .before .loop in
-    Found (start .args .job .now) (start .args .recipe .now) (loop .used) (loop .at) (c .next-chunk .result)
-found c = finds (c .before .before .before .loop .inv) (c .before .before .loop-test .taken) (c .before .before .before .before .before .before .before .pre .1 .0) _ (c .next-chunk .ensures)
+    Found (start .args .job .now) (start .args .recipe .now) (loop .used) (loop .at) (c .next-chunk .result .length)
+found c = finds (c .before .before .before .loop .inv) (c .before .before .loop-test .taken) (c .before .before .before .before .before .before .before .pre .1 .0) _ (ap (λ f. f .length) (c .next-chunk .ensures))
 
 mul-number : tie.Need-mul-number Inv-loop μ-loop
 mul-number c = omega (arith, found c)

@@ -14,8 +14,14 @@ by-test false = refl
 cast-t3 : tie.Need-cast-t3
 cast-t3 c = search needs
 
+cast-t4 : tie.Need-cast-t4
+cast-t4 c = search needs
+
+cast-t5 : tie.Need-cast-t5
+cast-t5 c = search needs
+
 returns : tie.Need-returns
 returns c = rw by-test
 
 pub of-fed-spec : {M : Type 1} → statement M
-of-fed-spec = tie.close (tie.spec cast-t3 returns)
+of-fed-spec = tie.close (tie.spec cast-t3 cast-t4 cast-t5 returns)

@@ -11,19 +11,18 @@ use lib.Seq.{drop-cons}
 use borrow.Author.Tests.{ltb-true, ltb-false}
 use Rattle.scan.specs.declared.Scanner.{Scanner}
 use Rattle.scan.specs.declared.Fed.{Fed}
-use Rattle.scan.specs.Scanner.{fresh}
 use Rattle.scan.specs.Move.{Move, Rise, Hold, Cut, move, next}
-use Rattle.scan.specs.Scan.{consumed, stopAtCut, scan}
+use Rattle.scan.specs.Scan.{uncut, cutAfter, stopAtCut, scan}
 use Rattle.scan.specs.internal.Run.{standing, onward}
 use Rattle.scan.proofs.laws.Moves.{move-start, move-rise, move-hold, move-cut, next-by}
 
 scan-by : (s : Scanner) (n b : ℕ) (bs : List ℕ) (m : Move) → move s b ≡ m
-    → scan s n (b ∷ bs) ≡ stopAtCut m (consumed (next s b) (suc n) true) (scan (next s b) (suc n) bs)
+    → scan s n (b ∷ bs) ≡ stopAtCut m (cutAfter (s .window) (suc n) (s .place) (s .value)) (scan (next s b) (suc n) bs)
 unfolding scan
 scan-by s n b bs m e = rw e
 
 -- an empty part leaves the scanner
-pub stays : (s : Scanner) (n : ℕ) (part : List ℕ) → length part ≡ 0 → consumed s n false ≡ scan s n part
+pub stays : (s : Scanner) (n : ℕ) (part : List ℕ) → length part ≡ 0 → uncut s n ≡ scan s n part
 unfolding scan
 stays s n [] h = refl
 stays s n (b ∷ bs) h = absurd (omega arith)
@@ -38,7 +37,7 @@ starts s (b ∷ bs) h g =
 
 module _ (part : List ℕ) (w base : ℕ) where
   -- the part is used up
-  pub ends : (d v i : ℕ) → length part ≤ i → onward part w base d v i ≡ consumed (standing w base d v i) i false
+  pub ends : (d v i : ℕ) → length part ≤ i → onward part w base d v i ≡ uncut (standing w base d v i) i
   unfolding onward scan
   ends d v i h = rw (drop-of-length-le part h)
 
@@ -63,12 +62,12 @@ module _ (part : List ℕ) (w base : ℕ) where
 
   -- the byte at i is not larger, and the deadline falls after it
   pub cuts : (d v i : ℕ) → 1 ≤ base + i → i < length part → getD part i 0 ≤ v → w ≤ base + d → suc i ≡ d
-      → onward part w base d v i ≡ consumed (fresh w) d true
+      → onward part w base d v i ≡ cutAfter w d (base + d - w) v
   unfolding onward
   cuts d v i begun h notLarger fits due =
       let s = standing w base d v i in
       let e = move-cut s (getD part i 0) begun notLarger (omega arith) in
-      rw (drop-cons part i 0, scan-by s i (getD part i 0) (drop (suc i) part) Cut e, next-by s (getD part i 0) Cut e, due)
+      rw (drop-cons part i 0, scan-by s i (getD part i 0) (drop (suc i) part) Cut e, due)
 
   one-on : (d v i n : ℕ) → onward part w base d v (suc i + n) ≡ onward part w base d v (i + suc n)
   one-on d v i n = rw (suc-add, add-suc)
@@ -93,7 +92,7 @@ module _ (part : List ℕ) (w base : ℕ) where
   -- bytes that are not larger up to the deadline end the chunk there
   pub cuts-at : (d v i : ℕ) → 1 ≤ base + i → i < d → d ≤ length part
       → ((q : ℕ) → i ≤ q → q < d → getD part q 0 ≤ v) → w ≤ base + d
-      → onward part w base d v i ≡ consumed (fresh w) d true
+      → onward part w base d v i ≡ cutAfter w d (base + d - w) v
   cuts-at d v i begun order h notLarger fits =
       let last : suc (d - 1) ≡ d = omega arith in
       holds-to d v i (d - 1) begun (omega arith) (omega arith) (λ q a b. notLarger q a (omega arith)) fits (omega arith)

@@ -9,8 +9,7 @@ use mathlib.Core.List.{List}
 use lib.ListN.{length, getD}
 use Rattle.scan.specs.declared.Scanner.{Scanner}
 use Rattle.scan.specs.declared.Fed.{Fed}
-use Rattle.scan.specs.Scanner.{fresh}
-use Rattle.scan.specs.Scan.{consumed, scan}
+use Rattle.scan.specs.Scan.{uncut, cutAfter, scan}
 use Rattle.scan.specs.internal.Run.{standing, onward, InOrder}
 use Rattle.scan.specs.internal.Sound.{Sound}
 use Rattle.scan.proofs.laws.run.Scanning.{starts, ends, holds-to, cuts-at, peaks}
@@ -120,7 +119,7 @@ module _ {part : List ℕ} {w base d v i : ℕ} {asked : Fed} (u : Underway part
 
   -- bytes not larger than v up to the deadline: the chunk ends there
   pub cuts-to : (e : ℕ) → e ≡ d → e ≤ length part → ((q : ℕ) → i ≤ q → q < e → getD part q 0 ≤ v)
-      → consumed (fresh w) e true ≡ asked
+      → cutAfter w e (base + e - w) v ≡ asked
   cuts-to e same h notLarger =
       let o = u .order in
       let due : i < d = o .live in
@@ -129,7 +128,7 @@ module _ {part : List ℕ} {w base d v i : ℕ} {asked : Fed} (u : Underway part
       ∙ u .gives)
 
   -- the part is used up
-  pub stops : length part ≤ i → consumed (standing w base d v i) i false ≡ asked
+  pub stops : length part ≤ i → uncut (standing w base d v i) i ≡ asked
   stops h = sym (ends part w base d v i h) ∙ u .gives
 
   -- one byte: larger, not larger, and not larger at the deadline
@@ -143,7 +142,7 @@ module _ {part : List ℕ} {w base d v i : ℕ} {asked : Fed} (u : Underway part
   byte-passes inside notLarger early =
       passes-to (i + 1) (omega arith) (omega arith) early (λ q. at-one (λ x. getD part x 0 ≤ v) i q notLarger)
 
-  pub byte-cuts : i < length part → getD part i 0 ≤ v → i + 1 ≡ d → consumed (fresh w) (i + 1) true ≡ asked
+  pub byte-cuts : i < length part → getD part i 0 ≤ v → i + 1 ≡ d → cutAfter w (i + 1) (base + (i + 1) - w) v ≡ asked
   byte-cuts inside notLarger due =
       cuts-to (i + 1) due (omega arith) (λ q. at-one (λ x. getD part x 0 ≤ v) i q notLarger)
 

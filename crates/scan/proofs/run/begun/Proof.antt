@@ -29,7 +29,7 @@ sub-deadline c = omega (arith, start-sound (c .before .before .before .before))
 returns : tie.Need-returns
 returns c =
     let sound = start-sound (c .before .before .before .before) in
-    record { window = refl; going = sets-out _ _ sound (omega arith); gives = sets-out-gives _ _ sound; whole = λ e. absurd (c .before .if1 .taken e) }
+    record { window = refl; going = sets-out _ _ sound (omega arith); gives = sets-out-gives _ _ sound; fresh = λ e. absurd (c .before .if1 .taken e) }
 
 add-t9 : tie.Need-add-t9
 add-t9 c = search needs
@@ -40,7 +40,7 @@ shared-slice-read-t11 c = search needs
 returns-2 : tie.Need-returns-2
 returns-2 c =
     let sound = start-sound (c .before .before .before .before) in
-    record { window = refl; going = begins _ _ sound (omega arith) (omega (arith, c .shared-slice-known .given 0)); gives = begins-gives _ _ sound (omega arith) (omega arith); whole = λ e. refl }
+    record { window = refl; going = begins _ _ sound (omega arith) (omega (arith, c .shared-slice-known .given 0)); gives = begins-gives _ _ sound (omega arith) (omega arith); fresh = λ e. record { base = refl; at = refl; value = refl; whole = refl } }
 
 pub begun-spec : {M : Type 1} → statement M
 begun-spec =

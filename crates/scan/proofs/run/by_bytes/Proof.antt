@@ -32,11 +32,13 @@ loop-holds c = record { order = rw (deadline (c .before .before)) (c .before .be
 shared-slice-read-byte : tie.Need-shared-slice-read-byte Inv-loop μ-loop
 shared-slice-read-byte c = omega arith
 
-add-cut : tie.Need-add-cut Inv-loop μ-loop
-add-cut c = omega arith
+add-deadline : tie.Need-add-deadline Inv-loop μ-loop
+add-deadline c = omega arith
 
 cut-requires : tie.Need-cut-requires Inv-loop μ-loop
-cut-requires c κs = omega (arith, c .before .before .before .before .loop .inv .order .high)
+cut-requires c κs =
+    let order = c .before .before .before .before .loop .inv .order in
+    omega (arith, c .if2 .taken, order .fits, deadline-small order)
 
 returns : tie.Need-returns Inv-loop μ-loop
 returns c =
@@ -64,8 +66,8 @@ loop-again c =
     (λ rises. rw (rises .1, rises .2, next at (at-loop .before .before .before .args .run .window)) (byte-rises (at-loop .loop .inv) (omega arith) (rises .0 .left) (omega (arith, c .before .shared-slice-known2 .given at))))
     (c .if1 .came)
 
-add-t15 : tie.Need-add-t15 Inv-loop μ-loop
-add-t15 c = omega (arith, deadline-small (c .before .loop .inv .order))
+add-t16 : tie.Need-add-t16 Inv-loop μ-loop
+add-t16 c = omega (arith, deadline-small (c .before .loop .inv .order))
 
 passed-requires : tie.Need-passed-requires Inv-loop μ-loop
 passed-requires c κs =
@@ -87,13 +89,13 @@ by-bytes-spec =
     sub-last
     loop-holds
     shared-slice-read-byte
-    add-cut
+    add-deadline
     cut-requires
     returns
     add-last
     add-at
     loop-less
     loop-again
-    add-t15
+    add-t16
     passed-requires
     returns-2)
