@@ -5,6 +5,7 @@ ghost use Prim.Native.Nat.{_≤_};
 ghost use Rattle.difference.specs.Difference.{Same};
 use crate::list;
 use crate::random;
+use chunker::Fed;
 use chunker::Scanner;
 use difference::Difference;
 
@@ -22,8 +23,21 @@ fn allowed(accepted: bool, consumed: usize, cut: bool, rest: usize) -> bool
     consumed == rest
 }
 
+// Whether the answer to a part of `rest` bytes is allowed, and tells no maximum point where no cut follows.
+fn fed_allowed(fed: Fed, rest: usize) -> bool
+    ensures { λ r. ⌜ (r ≡ true → fed .consumed ≤ rest) ⌝ }
+{
+    if !fed.cut {
+        if fed.place != 0 || fed.value != 0 {
+            return false;
+        }
+    }
+    let refusal = fed.refusal;
+    allowed(refusal::accepted(refusal), fed.consumed, fed.cut, rest)
+}
+
 // Ends the list with the last chunk, which has to be as long as the `open` bytes since the last cut.
-fn finish(scanner: Scanner, open: usize, list: &mut [usize], cuts: usize) {
+fn finish(scanner: Scanner, open: usize, list: &mut [usize], count: usize) {
     let answer = chunker::finish(scanner);
     let refusal = answer.refusal;
     let last = answer.count as usize;
@@ -31,38 +45,36 @@ fn finish(scanner: Scanner, open: usize, list: &mut [usize], cuts: usize) {
         list::end(list, list.len(), last);
         return;
     }
-    list::end(list, cuts, last);
+    list::end(list, count, last);
 }
 
 // Lists the chunks of a job. It is fed in parts of random lengths up to a most that the seed gives, and ends
-// with an empty part. An answer that is not allowed ends it with more chunks than the list has room for.
+// with an empty part. An answer that is not allowed ends it with more numbers than the list has room for.
 fn chunks(job: &[u8], window: u32, seed: u32, list: &mut [usize]) {
     let opened = chunker::open(window);
     let mut scanner = opened.scanner;
     let mut random = seed;
     let mut at = 0;
     let mut open = 0;
-    let mut cuts = 0;
+    let mut count = 0;
     let mut parts = 0u32;
     while parts < 100_000 {
         random = random::next(random);
         let end = at + random::up_to(random, 1 << (seed % 14), job.len() - at);
         let fed = chunker::feed(scanner, &job[at..end]);
-        let consumed = fed.consumed;
-        let refusal = fed.refusal;
-        if !allowed(refusal::accepted(refusal), consumed, fed.cut, end - at) {
+        if !fed_allowed(fed, end - at) {
             break;
         }
         let moved = fed.scanner;
         if at == job.len() {
-            finish(moved, open, list, cuts);
+            finish(moved, open, list, count);
             return;
         }
         scanner = moved;
-        at += consumed;
-        open = std::num::wrapping_add_usize(open, consumed);
+        at += fed.consumed;
+        open = std::num::wrapping_add_usize(open, fed.consumed);
         if fed.cut {
-            cuts = list::add(list, cuts, open);
+            count = list::add_cut(list, count, open, fed.place as usize, fed.value);
             open = 0;
         }
         parts += 1;

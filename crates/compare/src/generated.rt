@@ -6,11 +6,12 @@ use crate::random;
 use crate::tally;
 use crate::tally::Tally;
 
-// Makes the job of a number, which gives its kind, length, bytes and splittings, and compares it.
+// Makes the job of a number, which gives its kind, length, bytes and splittings, and compares it. A chunk that a
+// cut ends has at least two bytes and adds three numbers, so each list has room for any job, of up to 8191 bytes.
 fn compared(tally: Tally, window: u32, number: u32) -> Tally {
     let mut room = io::large_buffer();
-    let mut expected = [0usize; 8192];
-    let mut found = [0usize; 8192];
+    let mut expected = [0usize; 16384];
+    let mut found = [0usize; 16384];
     let seed = random::next((window << 20) ^ number);
     let length = random::up_to(seed, 8191 >> (number % 7), 8192);
     random::fill(&mut room[..length], number % 6, window / 2, seed);

@@ -1,6 +1,7 @@
-// Compares the scanner with a second AE cutter that is written from the paper's two conditions, on
-// the jobs that the papers work by hand and on some thousands of pseudo-random ones, each fed to
-// the scanner in random splittings.
+// Compares the scanner with a second AE cutter that is written from the paper's two conditions: the
+// lengths of the chunks, and the places and the values of their maximum points. The jobs are those that
+// the papers work by hand and some thousands of pseudo-random ones, each fed to the scanner in random
+// splittings.
 mod feeding;
 mod generated;
 mod handworked;

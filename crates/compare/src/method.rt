@@ -1,7 +1,7 @@
 // A second AE cutter, written from the two conditions of the customer's scope and from nothing
 // else: every place of a chunk is tried from the first on, and for each both conditions are tested
 // on the bytes themselves. It keeps nothing from one place to the next.
-ghost use Prim.Native.Nat.{_+_, _≤_};
+ghost use Prim.Native.Nat.{_+_, _-_, _≤_};
 ghost use lib.ListN.{length};
 use crate::list;
 
@@ -28,16 +28,16 @@ fn maximum_point(rest: &[u8], place: usize, window: usize) -> bool
     true
 }
 
-// The length of the chunk that starts with the first byte of `rest` and that a cut ends, or 0
-// where none of its places is a maximum point.
-fn cut_length(rest: &[u8], window: usize) -> usize
-    ensures { λ r. ⌜ r ≤ length (now (rest .entry)) ⌝ }
+// The first place that is a maximum point of the chunk that starts with the first byte of `rest`, or 0
+// where there is none.
+fn first_maximum_point(rest: &[u8], window: usize) -> usize
+    ensures { λ r. ⌜ r ≤ length (now (rest .entry)) - window ⌝ }
 {
     let mut place = 1;
     while place <= rest.len() {
         if window <= rest.len() - place {
             if maximum_point(rest, place, window) {
-                return place + window;
+                return place;
             }
         }
         place += 1;
@@ -45,17 +45,19 @@ fn cut_length(rest: &[u8], window: usize) -> usize
     0
 }
 
-// Lists the chunks of a job.
+// Lists the chunks of a job. A cut ends a chunk `window` places after its first maximum point.
 pub fn chunks(job: &[u8], window: usize, list: &mut [usize]) {
     let mut start = 0;
-    let mut cuts = 0;
+    let mut count = 0;
     loop {
-        let cut = cut_length(&job[start..], window);
-        if cut == 0 {
-            list::end(list, cuts, job.len() - start);
+        let rest = &job[start..];
+        let place = first_maximum_point(rest, window);
+        if place == 0 {
+            list::end(list, count, rest.len());
             return;
         }
-        cuts = list::add(list, cuts, cut);
-        start += cut;
+        let length = place + window;
+        count = list::add_cut(list, count, length, place, rest[place - 1]);
+        start += length;
     }
 }

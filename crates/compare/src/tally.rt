@@ -5,21 +5,21 @@ ghost use Rattle.difference.specs.Difference.{differences};
 use difference::Difference;
 use libc::STDOUT_FILENO;
 
-// The comparisons, the lengths compared, and the comparisons with a difference.
+// The comparisons, the numbers compared, and the comparisons with a difference.
 pub struct Tally {
     pub comparisons: u64,
-    pub lengths: u64,
+    pub numbers: u64,
     pub differences: u64,
 }
 
 pub const EMPTY: Tally = Tally {
     comparisons: 0,
-    lengths: 0,
+    numbers: 0,
     differences: 0,
 };
 
 // One comparison more. A difference is printed above the line of its group.
-pub fn counted(tally: Tally, lengths: usize, difference: Difference) -> Tally
+pub fn counted(tally: Tally, numbers: usize, difference: Difference) -> Tally
     ensures { λ r. ⌜ r .differences ≡ (tally .differences + differences difference) % 2 ^ 64 ⌝ }
 {
     let mut one = 0;
@@ -30,7 +30,7 @@ pub fn counted(tally: Tally, lengths: usize, difference: Difference) -> Tally
     }
     Tally {
         comparisons: std::num::wrapping_add_u64(tally.comparisons, 1),
-        lengths: std::num::wrapping_add_u64(tally.lengths, lengths as u64),
+        numbers: std::num::wrapping_add_u64(tally.numbers, numbers as u64),
         differences: std::num::wrapping_add_u64(tally.differences, one),
     }
 }
@@ -44,7 +44,7 @@ pub fn print(text: &[u8], number: u64) {
 // Prints the counts, after what names the group.
 pub fn print_counts(tally: Tally) {
     print(b": comparisons ", tally.comparisons);
-    print(b", lengths ", tally.lengths);
+    print(b", numbers ", tally.numbers);
     print(b", differences ", tally.differences);
     io::write_all(STDOUT_FILENO, b"\n");
 }

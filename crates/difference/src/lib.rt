@@ -1,5 +1,6 @@
 // Where two lists of chunks differ: the comparison of the program `compare`. A list is memory that begins with how many
-// lengths follow: those of the chunks that a cut ends, and that of the last chunk, 0 where there is none.
+// numbers follow: for each chunk that a cut ends its length, and the place and the value of its maximum point; then the
+// length of the last chunk, 0 where there is none.
 ghost use mathlib.Core.Path.{_≡_};
 ghost use Rattle.difference.specs.Difference.{difference};
 

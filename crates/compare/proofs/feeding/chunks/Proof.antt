@@ -10,10 +10,10 @@ use Rattle.compare.proofs.feeding.chunks.Statement.{statement}
 use Rattle.compare.proofs.feeding.chunks.Tie as tie
 
 abbrev Inv-loop : tie.InvT-loop
-Inv-loop job window seed list₀ scanner₀ random₀ at₀ open₀ cuts₀ parts₀ list scanner random at «open» cuts parts = (at ≤ length job) × (length list ≡ length list₀)
+Inv-loop job window seed list₀ scanner₀ random₀ at₀ open₀ count₀ parts₀ list scanner random at «open» count parts = (at ≤ length job) × (length list ≡ length list₀)
 
 abbrev μ-loop : tie.MeasureT-loop
-μ-loop job window seed list₀ scanner₀ random₀ at₀ open₀ cuts₀ parts₀ list scanner random at «open» cuts parts = 100000 - parts
+μ-loop job window seed list₀ scanner₀ random₀ at₀ open₀ count₀ parts₀ list scanner random at «open» count parts = 100000 - parts
 
 open-requires : tie.Need-open-requires Inv-loop μ-loop
 open-requires c κs = search needs
@@ -48,14 +48,11 @@ part-feed-end c = search needs
 feed-requires : tie.Need-feed-requires Inv-loop μ-loop
 feed-requires c κs = search needs
 
-accepted-requires : tie.Need-accepted-requires Inv-loop μ-loop
-accepted-requires c κs = search needs
+sub-fed-allowed : tie.Need-sub-fed-allowed Inv-loop μ-loop
+sub-fed-allowed c = search needs
 
-sub-allowed : tie.Need-sub-allowed Inv-loop μ-loop
-sub-allowed c = search needs
-
-allowed-requires : tie.Need-allowed-requires Inv-loop μ-loop
-allowed-requires c κs = search needs
+fed-allowed-requires : tie.Need-fed-allowed-requires Inv-loop μ-loop
+fed-allowed-requires c κs = search needs
 
 finish-requires : tie.Need-finish-requires Inv-loop μ-loop
 finish-requires c κs = search needs
@@ -67,13 +64,16 @@ returns : tie.Need-returns Inv-loop μ-loop
 returns c = search needs
 
 add-at : tie.Need-add-at Inv-loop μ-loop
-add-at c = omega (arith, c .before .before .before .allowed .ensures (not-false _ (c .before .before .if1 .left)))
+add-at c = omega (arith, c .before .before .before .before .fed-allowed .ensures (not-false _ (c .before .before .before .if1 .left)))
 
 wrapping-add-usize-requires : tie.Need-wrapping-add-usize-requires Inv-loop μ-loop
 wrapping-add-usize-requires c κs = search needs
 
-add-requires : tie.Need-add-requires Inv-loop μ-loop
-add-requires c κs = search needs
+cast-add-cut : tie.Need-cast-add-cut Inv-loop μ-loop
+cast-add-cut c = search needs
+
+add-cut-requires : tie.Need-add-cut-requires Inv-loop μ-loop
+add-cut-requires c κs = search needs
 
 add-parts : tie.Need-add-parts Inv-loop μ-loop
 add-parts c = search needs
@@ -83,10 +83,10 @@ loop-less c = search needs
 
 loop-again : tie.Need-loop-again Inv-loop μ-loop
 loop-again c =
-    let allowed = c .before .before .before .before in
-    let turn = allowed .before .before .before .before .before .before .before .before in (
-      omega (arith, allowed .before .allowed .ensures (not-false _ (allowed .if1 .left))),
-      ⊎-elim (λ cut. ap length (cut .5) ∙ (cut .2 .kept .0 ∙ turn .loop .inv .1)) (λ on. ap length (on .1) ∙ turn .loop .inv .1)
+    let allowed = c .before .before .before .before .before in
+    let turn = allowed .before .before .before .before .before .before .before in (
+      omega (arith, allowed .before .fed-allowed .ensures (not-false _ (allowed .if1 .left))),
+      ⊎-elim (λ cut. ap length (cut .6) ∙ (cut .3 .kept .0 ∙ turn .loop .inv .1)) (λ on. ap length (on .1) ∙ turn .loop .inv .1)
           (c .if3 .came),
     )
 
@@ -116,15 +116,15 @@ chunks-spec =
     part-feed-start
     part-feed-end
     feed-requires
-    accepted-requires
-    sub-allowed
-    allowed-requires
+    sub-fed-allowed
+    fed-allowed-requires
     finish-requires
     same-length
     returns
     add-at
     wrapping-add-usize-requires
-    add-requires
+    cast-add-cut
+    add-cut-requires
     add-parts
     loop-less
     loop-again

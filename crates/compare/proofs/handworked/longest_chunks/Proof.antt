@@ -32,6 +32,12 @@ slice-aggregate-stated-2 c = search needs
 stated-requires : tie.Need-stated-requires
 stated-requires c κs = search needs
 
+mul-first : tie.Need-mul-first
+mul-first c = search needs
+
+add-first : tie.Need-add-first
+add-first c = search needs
+
 add-stated : tie.Need-add-stated
 add-stated c = search needs
 
@@ -41,8 +47,8 @@ slice-reshare-prefix-stated-2 c = simp length-set (omega arith)
 slice-aggregate-stated-3 : tie.Need-slice-aggregate-stated-3
 slice-aggregate-stated-3 c = simp (length-take, length-set) (omega arith)
 
-add-t21 : tie.Need-add-t21
-add-t21 c = search needs
+add-t19 : tie.Need-add-t19
+add-t19 c = search needs
 
 slice-aggregate-stated-4 : tie.Need-slice-aggregate-stated-4
 slice-aggregate-stated-4 c = search needs
@@ -69,10 +75,12 @@ longest-chunks-spec =
     slice-aggregate-stated
     slice-aggregate-stated-2
     stated-requires
+    mul-first
+    add-first
     add-stated
     slice-reshare-prefix-stated-2
     slice-aggregate-stated-3
-    add-t21
+    add-t19
     slice-aggregate-stated-4
     stated-requires-2
     same-length

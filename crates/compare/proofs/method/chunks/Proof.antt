@@ -7,28 +7,25 @@ use Rattle.compare.proofs.method.chunks.Statement.{statement}
 use Rattle.compare.proofs.method.chunks.Tie as tie
 
 abbrev Inv-loop : tie.InvT-loop
-Inv-loop job window list₀ start₀ cuts₀ list start cuts = (start ≤ length job) × (length list ≡ length list₀)
+Inv-loop job window list₀ start₀ count₀ list start count = (start ≤ length job) × (length list ≡ length list₀)
 
 abbrev μ-loop : tie.MeasureT-loop
-μ-loop job window list₀ start₀ cuts₀ list start cuts = length job - start
+μ-loop job window list₀ start₀ count₀ list start count = length job - start
 
 loop-holds : tie.Need-loop-holds Inv-loop μ-loop
 loop-holds c = search needs
 
-sub-cut-length : tie.Need-sub-cut-length Inv-loop μ-loop
-sub-cut-length c = search needs
+sub-rest : tie.Need-sub-rest Inv-loop μ-loop
+sub-rest c = search needs
 
-part-cut-length-start : tie.Need-part-cut-length-start Inv-loop μ-loop
-part-cut-length-start c = search needs
+part-rest-start : tie.Need-part-rest-start Inv-loop μ-loop
+part-rest-start c = search needs
 
-part-cut-length-end : tie.Need-part-cut-length-end Inv-loop μ-loop
-part-cut-length-end c = search needs
+part-rest-end : tie.Need-part-rest-end Inv-loop μ-loop
+part-rest-end c = search needs
 
-cut-length-requires : tie.Need-cut-length-requires Inv-loop μ-loop
-cut-length-requires c κs = search needs
-
-sub-end : tie.Need-sub-end Inv-loop μ-loop
-sub-end c = search needs
+first-maximum-point-requires : tie.Need-first-maximum-point-requires Inv-loop μ-loop
+first-maximum-point-requires c κs = search needs
 
 end-requires : tie.Need-end-requires Inv-loop μ-loop
 end-requires c κs = search needs
@@ -39,8 +36,17 @@ same-length c = search needs
 returns : tie.Need-returns Inv-loop μ-loop
 returns c = search needs
 
-add-requires : tie.Need-add-requires Inv-loop μ-loop
-add-requires c κs = search needs
+add-length : tie.Need-add-length Inv-loop μ-loop
+add-length c = search needs
+
+sub-add-cut : tie.Need-sub-add-cut Inv-loop μ-loop
+sub-add-cut c = search needs
+
+shared-slice-read-add-cut : tie.Need-shared-slice-read-add-cut Inv-loop μ-loop
+shared-slice-read-add-cut c = search needs
+
+add-cut-requires : tie.Need-add-cut-requires Inv-loop μ-loop
+add-cut-requires c κs = search needs
 
 add-start : tie.Need-add-start Inv-loop μ-loop
 add-start c = search needs
@@ -58,15 +64,17 @@ chunks-spec =
     Inv-loop
     μ-loop
     loop-holds
-    sub-cut-length
-    part-cut-length-start
-    part-cut-length-end
-    cut-length-requires
-    sub-end
+    sub-rest
+    part-rest-start
+    part-rest-end
+    first-maximum-point-requires
     end-requires
     same-length
     returns
-    add-requires
+    add-length
+    sub-add-cut
+    shared-slice-read-add-cut
+    add-cut-requires
     add-start
     loop-less
     loop-again)

@@ -1,9 +1,9 @@
--- `compare::method::cut_length` meets its contract. Each turn tries one place.
+-- `compare::method::first_maximum_point` meets its contract. Each turn tries one place.
 use Prim.Native.Nat.{_+_, _≤_, _-_}
 use lib.ListN.{length}
 use borrow.Author.Needs.{needs}
-use Rattle.compare.proofs.method.cut_length.Statement.{statement}
-use Rattle.compare.proofs.method.cut_length.Tie as tie
+use Rattle.compare.proofs.method.first_maximum_point.Statement.{statement}
+use Rattle.compare.proofs.method.first_maximum_point.Tie as tie
 
 abbrev Inv-loop : tie.InvT-loop
 Inv-loop rest window place₀ place = (1 ≤ place) × (place ≤ length rest + 1)
@@ -20,9 +20,6 @@ sub-if1 c = search needs
 maximum-point-requires : tie.Need-maximum-point-requires Inv-loop μ-loop
 maximum-point-requires c κs = search needs
 
-add-result : tie.Need-add-result Inv-loop μ-loop
-add-result c = search needs
-
 returns : tie.Need-returns Inv-loop μ-loop
 returns c = search needs
 
@@ -38,8 +35,8 @@ loop-again c = search needs
 returns-2 : tie.Need-returns-2 Inv-loop μ-loop
 returns-2 c = search needs
 
-pub cut-length-spec : {M : Type 1} → statement M
-cut-length-spec =
+pub first-maximum-point-spec : {M : Type 1} → statement M
+first-maximum-point-spec =
     tie.close
     (tie.spec
     Inv-loop
@@ -47,7 +44,6 @@ cut-length-spec =
     loop-holds
     sub-if1
     maximum-point-requires
-    add-result
     returns
     add-place
     loop-less
