@@ -1,7 +1,7 @@
 # Each target does all of its own set-up.
 export RT_JOBS ?= 2
 
-.PHONY: help test list job example bench
+.PHONY: help test list job example peaks bench
 .NOTPARALLEL:
 .DELETE_ON_ERROR:
 
@@ -12,6 +12,8 @@ help:
 	@echo "make list JOB=FILE   the frames of a job"
 	@echo "                     (about 2 minutes the first time, to prove and build the program; then at once)"
 	@echo "make example         a label and its revision, quoted, taken and rebuilt from C"
+	@echo "                     (about 2 minutes the first time, to prove and build the library; then at once)"
+	@echo "make peaks JOB=FILE  the chunks and cuts of a job with windows from 1 to 64, to choose one by"
 	@echo "                     (about 2 minutes the first time, to prove and build the library; then at once)"
 	@echo "make bench           the library measured beside plain Rust, a HashMap and, where its archive is there,"
 	@echo "                     the version before (bench/before.rs says how to make that)"
@@ -33,16 +35,27 @@ example: target/staticlib/libhirunvel.a
 	@cc -std=c99 -Iinclude -o target/example/label_revision examples/label_revision.c -Ltarget/staticlib -lhirunvel
 	@target/example/label_revision docs/example/label.zpl docs/example/label-2.zpl
 
-# Measures the library beside plain implementations of the same operations, and beside the version before if its archive
-# is in `before`. Without position-independent code the calls of the archive are direct, as those of the plain ones are.
-before := target/bench/before
-with_before = $(if $(wildcard $(before)/libhirunvel_before.a),--cfg before -L native=$(before))
+# Prints how many chunks a job has with each of seven windows, and which bytes cause its cuts.
+peaks: job target/staticlib/libhirunvel.a
+	@mkdir -p target/example
+	@cc -std=c99 -Iinclude -o target/example/peaks examples/peaks.c -Ltarget/staticlib -lhirunvel
+	@target/example/peaks <"$$JOB"
 
-bench: target/staticlib/libhirunvel.a target/staticlib/libchunk_count.a
-	@mkdir -p target/bench
+# Measures the library beside plain implementations of the same operations, and beside the version before if both of its
+# archives are there. Without position-independent code the calls of the archives are direct, as those of the plain ones
+# are. The functions of all are placed at multiples of 64 bytes, those of the archives in copies: elsewhere the same
+# machine code can be half or twice as fast.
+libraries := target/staticlib/libhirunvel.a target/staticlib/libchunk_count.a
+before := target/bench/before/libhirunvel_before.a target/bench/before/libchunk_count_before.a
+found_before = $(if $(filter 2,$(words $(wildcard $(before)))),$(before))
+
+bench: $(libraries)
+	@mkdir -p target/bench/placed
 	@python3 bench/inputs.py target/bench
-	@rustc --edition 2021 -O --check-cfg 'cfg(before)' -C relocation-model=static -L native=target/staticlib \
-	    $(with_before) -o target/bench/bench bench/main.rs
+	@for archive in $(libraries) $(found_before); do \
+	    objcopy --set-section-alignment '.text*=64' $$archive target/bench/placed/$${archive##*/} || exit; done
+	@rustc --edition 2021 -O --check-cfg 'cfg(before)' $(if $(found_before),--cfg before) -C relocation-model=static \
+	    -C llvm-args=-align-all-functions=6 -L native=target/bench/placed -o target/bench/bench bench/main.rs
 	@target/bench/bench target/bench
 
 # A program, and a library for C: proved and built again if anything in the crates is newer.

@@ -74,15 +74,16 @@ static void open_store(void)
     memset(chunk_index, 0xFF, sizeof chunk_index);
 }
 
-/* What a quote or a take answers: the recipe's length, new bytes, repeated bytes; and the saving. */
+/* What a quote or a take answers: the recipe's length, new bytes, repeated bytes, and the cuts by the value of the
+ * maximum point, in three counts; and the saving. */
 struct terms {
-    uint64_t counts[3];
+    uint64_t counts[6];
     int64_t saving;
 };
 
 /* Prints the terms of a job. The charge is the bytes of its new chunks, those that the store did not hold. The saving
  * is the length less the charge and less 72 bytes for each packet of the recipe, which has a number for each chunk, 32
- * to a packet. */
+ * to a packet. A cut's value is the byte that causes it, at the maximum point of the chunk that the cut ends. */
 static void print_terms(const struct job *job, const struct terms *terms)
 {
     printf("  length: %zu bytes\n", job->length);
@@ -90,6 +91,8 @@ static void print_terms(const struct job *job, const struct terms *terms)
     printf("  repeated: %" PRIu64 " bytes\n", terms->counts[2]);
     printf("  chunks: %" PRIu64 "\n", terms->counts[0]);
     printf("  saving: %" PRId64 " bytes\n", terms->saving);
+    printf("  cuts by value: %" PRIu64 " below 20, %" PRIu64 " from 20 to 7E, %" PRIu64 " above 7E (hexadecimal)\n",
+           terms->counts[3], terms->counts[4], terms->counts[5]);
 }
 
 /* Quotes a job. Of all the lent memory only the recipe is written. */
@@ -159,7 +162,7 @@ static size_t feed_part(uint32_t scanner[4], const uint8_t *part, size_t length)
     size_t cuts = 0;
 
     while (length > 0) {
-        uint64_t fed[2];
+        uint64_t fed[4];
 
         check(hirunvel_scanner_feed(scanner, part, length, fed), "hirunvel_scanner_feed");
         part += fed[0];

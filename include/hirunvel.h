@@ -80,6 +80,11 @@ extern "C" {
  *
  * It is sound if count, place and value are all 0, or if 1 <= place <= count < place + window and
  * place <= value * window + 1.
+ *
+ * A maximum point is a place of a chunk, counted from 1, whose byte is the chunk's first or larger than every byte of
+ * the chunk before it, and not smaller than any of the next window bytes, all of which exist. A chunk ends window
+ * places after its first maximum point, and a cut follows; what is left at the end of a job is a last chunk that no cut
+ * ends. The proofs rest on this definition; it is in crates/chunker/specs/Method.antt.
  */
 
 /*
@@ -93,9 +98,13 @@ uint32_t hirunvel_scanner_open(uint32_t window, uint32_t scanner[4]);
  * To go on after a cut, feed the rest of the part: an accepted feed of a part that is not empty consumes at least one
  * byte. Tests HIRUNVEL_WINDOW, HIRUNVEL_UNSOUND.
  * Reads part. Writes scanner; after a cut its count, place and value are 0. fed[0] is the bytes consumed; fed[1] is 1
- * if a cut follows them, else 0. Refused: scanner is unchanged, fed[0] and fed[1] are 0.
+ * if a cut follows them, else 0. At a cut fed[2] and fed[3] are the place and the value of the first maximum point of
+ * the chunk that it ends. The place is counted from 1 in the chunk, bytes from earlier parts included; the value is the
+ * byte there, 0 to 255. If earlier parts began the chunk and no byte consumed is larger than the scanner's value, these
+ * are the scanner's place and value as it was handed in. Without a cut fed[2] and fed[3] are 0. Refused: scanner is
+ * unchanged, all of fed is 0.
  */
-uint32_t hirunvel_scanner_feed(uint32_t scanner[4], const uint8_t *part, size_t part_len, uint64_t fed[2]);
+uint32_t hirunvel_scanner_feed(uint32_t scanner[4], const uint8_t *part, size_t part_len, uint64_t fed[4]);
 
 /*
  * Ends a job. Tests HIRUNVEL_WINDOW, HIRUNVEL_UNSOUND.
@@ -172,13 +181,18 @@ uint32_t hirunvel_store_open(uint32_t window, uint32_t head[3]);
  * saving[0] is job_len - counts[1] - 72 * packets, where packets is counts[0] / 32, rounded up: on the link a recipe
  * number has 2 bytes, and each packet of up to 64 such bytes is charged at 72. The saving can be negative; it is at
  * least -147456.
- * Refused: counts[0], counts[1], counts[2] and saving[0] are 0. After HIRUNVEL_RECIPE_FULL, HIRUNVEL_DIRECTORY_FULL and
+ * The last three counts are the job's cuts by the value of the maximum point, which a feed gives as fed[3]: counts[3]
+ * those with a value below 0x20, counts[4] from 0x20 to 0x7E, counts[5] above 0x7E. All cuts of the job count, those of
+ * repeated chunks too; the last chunk counts only if a cut ends it. So the three add up to the number of the job's
+ * cuts: counts[0], or counts[0] - 1 if no cut ends the last chunk. They depend on the job and the window alone, and are
+ * the same whatever the store holds.
+ * Refused: all six counts and saving[0] are 0. After HIRUNVEL_RECIPE_FULL, HIRUNVEL_DIRECTORY_FULL and
  * HIRUNVEL_POOL_FULL the recipe holds the numbers of the chunks before the refused one, and the rest is untouched.
  * After the other grounds the whole recipe is untouched.
  */
 uint32_t hirunvel_store_quote(const uint32_t head[3], const uint8_t *pool, size_t pool_len, const uint32_t *directory,
                               size_t directory_len, const uint32_t *index, size_t index_len, uint32_t *recipe,
-                              size_t recipe_len, const uint8_t *job, size_t job_len, uint64_t counts[3],
+                              size_t recipe_len, const uint8_t *job, size_t job_len, uint64_t counts[6],
                               int64_t saving[1]);
 
 /*
@@ -193,7 +207,7 @@ uint32_t hirunvel_store_quote(const uint32_t head[3], const uint8_t *pool, size_
  */
 uint32_t hirunvel_store_take(uint32_t head[3], uint8_t *pool, size_t pool_len, uint32_t *directory,
                              size_t directory_len, uint32_t *index, size_t index_len, uint32_t *recipe,
-                             size_t recipe_len, const uint8_t *job, size_t job_len, uint64_t counts[3],
+                             size_t recipe_len, const uint8_t *job, size_t job_len, uint64_t counts[6],
                              int64_t saving[1]);
 
 /*

@@ -40,7 +40,7 @@ unsafe extern "C" {
         scanner: *mut [u32; 4],
         part: *const u8,
         part_len: usize,
-        fed: *mut [u64; 2],
+        fed: *mut [u64; 4],
     ) -> u32;
     pub fn hirunvel_scanner_finish(scanner: *mut [u32; 4], count: *mut u64) -> u32;
     pub fn hirunvel_store_open(window: u32, head: *mut [u32; 3]) -> u32;
@@ -56,7 +56,7 @@ unsafe extern "C" {
         recipe_len: usize,
         job: *const u8,
         job_len: usize,
-        counts: *mut [u64; 3],
+        counts: *mut [u64; 6],
         saving: *mut [i64; 1],
     ) -> u32;
     pub fn hirunvel_store_take(
@@ -71,7 +71,7 @@ unsafe extern "C" {
         recipe_len: usize,
         job: *const u8,
         job_len: usize,
-        counts: *mut [u64; 3],
+        counts: *mut [u64; 6],
         saving: *mut [i64; 1],
     ) -> u32;
     pub fn hirunvel_store_look(

@@ -20,6 +20,10 @@ pub trait Call: Clone + PartialEq + Debug {
     /// Has the model do the work, and gives the refusal.
     fn by_model(&mut self) -> u32;
 
+    /// Counts what the call told beside its refusal, where that is counted. `before` is the call before
+    /// the work.
+    fn count_told(&self, _before: &Self, _refusal: u32, _tally: &mut Tally) {}
+
     /// Calls that are smaller than this one.
     fn smaller_calls(&self) -> Smaller<'_, Self>;
 }
@@ -30,6 +34,7 @@ pub fn compare<C: Call>(call: &C, tally: &mut Tally) -> Result<(u32, C), String>
     let (refusal, expected) = (library.by_library(), model.by_model());
     if refusal == expected && library == model {
         tally.count(C::OPERATION, refusal);
+        library.count_told(call, refusal, tally);
         return Ok((refusal, library));
     }
     Err(format!(

@@ -3,7 +3,8 @@
 use crate::call::compare;
 use crate::jobs;
 use crate::memory::Lent;
-use crate::model::{chunks, longest_chunk, scanner, WINDOW_LIMIT};
+use crate::model::chunks::{self, Peak};
+use crate::model::{longest_chunk, scanner, ACCEPTED, WINDOW_LIMIT};
 use crate::random::Random;
 use crate::scanner_calls::{Feed, Finish, ScannerOpen};
 use crate::shrink::{hold, smaller_bytes, without_block, Case, Smaller};
@@ -11,40 +12,22 @@ use crate::tally::{Operation, Tally};
 
 /// A job fed to a new scanner in parts.
 #[derive(Clone, Debug)]
-struct Feeding {
-    window: u32,
+pub struct Feeding {
+    pub window: u32,
     parts: Vec<Lent<u8>>,
 }
 
+/// What the feeds and the finish tell of a job: the lengths of its chunks, the last one included, and
+/// the maximum points of those that a cut ends.
+#[derive(Default, PartialEq, Debug)]
+pub struct Chunks {
+    lengths: Vec<u64>,
+    pub peaks: Vec<Peak>,
+}
+
 impl Case for Feeding {
-    /// Compares each feed with the model, and the chunks with the definition of a maximum point.
     fn check(&self, tally: &mut Tally) -> Result<(), String> {
-        let (refusal, opened) = compare(&ScannerOpen::new(self.window), tally)?;
-        if refusal != 0 {
-            return Ok(());
-        }
-        let mut scanner = opened.scanner;
-        let mut lengths = Vec::new();
-        let mut length = 0;
-        for part in &self.parts {
-            let mut rest = &part[..];
-            loop {
-                let (_, after) = compare(&Feed::new(&scanner, rest), tally)?;
-                scanner = after.scanner;
-                length += after.fed[0];
-                rest = &rest[after.fed[0] as usize..];
-                if after.fed[1] == 1 {
-                    lengths.push(length);
-                    length = 0;
-                }
-                if rest.is_empty() {
-                    break;
-                }
-            }
-        }
-        let (_, after) = compare(&Finish::new(&scanner), tally)?;
-        lengths.extend(after.count.iter().filter(|&&count| count > 0));
-        self.check_lengths(&lengths)
+        self.run(tally).map(|_| ())
     }
 
     fn smaller(&self) -> Smaller<'_, Self> {
@@ -61,23 +44,68 @@ impl Case for Feeding {
 }
 
 impl Feeding {
-    /// Compares the lengths of the chunks, as the library's cuts give them, with the definition.
-    fn check_lengths(&self, lengths: &[u64]) -> Result<(), String> {
-        let job: Vec<u8> = self.parts.iter().flat_map(|part| part.to_vec()).collect();
-        let expected: Vec<u64> = chunks::chunks(self.window, &job)
-            .iter()
-            .map(|chunk| chunk.len() as u64)
-            .collect();
-        if lengths != expected {
+    /// This job, split into parts.
+    pub fn random(random: &mut Random, window: u32, job: &[u8]) -> Self {
+        let parts = split(random, job);
+        Feeding { window, parts }
+    }
+
+    /// The whole job.
+    pub fn job(&self) -> Vec<u8> {
+        self.parts.iter().flat_map(|part| part.to_vec()).collect()
+    }
+
+    /// Feeds the job. Compares each call with the model, and all that they tell with the definition of a
+    /// maximum point. Gives what they tell, nothing where the window is refused.
+    pub fn run(&self, tally: &mut Tally) -> Result<Chunks, String> {
+        let (refusal, opened) = compare(&ScannerOpen::new(self.window), tally)?;
+        let mut told = Chunks::default();
+        if refusal != ACCEPTED {
+            return Ok(told);
+        }
+        let mut scanner = opened.scanner;
+        let mut length = 0;
+        for part in &self.parts {
+            let mut rest = &part[..];
+            loop {
+                let (_, after) = compare(&Feed::new(&scanner, rest), tally)?;
+                length += after.fed[0];
+                rest = &rest[after.fed[0] as usize..];
+                if let Some(peak) = after.peak() {
+                    told.lengths.push(length);
+                    told.peaks.push(peak);
+                    length = 0;
+                }
+                scanner = after.scanner;
+                if rest.is_empty() {
+                    break;
+                }
+            }
+        }
+        let (_, after) = compare(&Finish::new(&scanner), tally)?;
+        let last = after.count.iter().filter(|&&count| count > 0);
+        told.lengths.extend(last);
+        self.check_chunks(&told)?;
+        Ok(told)
+    }
+
+    /// Compares the chunks, as the feeds tell of them, with the definition.
+    fn check_chunks(&self, told: &Chunks) -> Result<(), String> {
+        let job = self.job();
+        let division = chunks::division(self.window, &job);
+        let lengths = division.iter().map(|chunk| chunk.bytes.len() as u64);
+        let expected = Chunks {
+            lengths: lengths.collect(),
+            peaks: division.iter().filter_map(|chunk| chunk.peak).collect(),
+        };
+        if *told != expected {
             return Err(format!(
-                "The chunks are {lengths:?} by the feeds, {expected:?} by the definition."
+                "The feeds tell of {told:?}, and by the definition it is {expected:?}."
             ));
         }
-        if lengths
-            .iter()
-            .any(|&length| length > longest_chunk(self.window))
-        {
-            return Err(format!("A chunk of {lengths:?} is too long."));
+        let longest = longest_chunk(self.window);
+        if told.lengths.iter().any(|&length| length > longest) {
+            return Err(format!("A chunk of {told:?} is too long."));
         }
         Ok(())
     }
@@ -100,8 +128,7 @@ pub fn run(random: &mut Random, feeds: u64, tally: &mut Tally) -> Result<(), Str
         };
         let length = job_length(random, window);
         let job = jobs::job(random, window.clamp(1, WINDOW_LIMIT), length);
-        let parts = split(random, &job);
-        hold(&Feeding { window, parts }, tally)?;
+        hold(&Feeding::random(random, window, &job), tally)?;
     }
     for _ in 0..feeds / 4 {
         let scanner = forged_scanner(random);
@@ -114,8 +141,7 @@ pub fn run(random: &mut Random, feeds: u64, tally: &mut Tally) -> Result<(), Str
     }
     for window in jobs::WINDOWS {
         let rises = jobs::long_rise(random, window as usize, 600 * window as usize);
-        let parts = split(random, &rises);
-        hold(&Feeding { window, parts }, tally)?;
+        hold(&Feeding::random(random, window, &rises), tally)?;
     }
     Ok(())
 }
@@ -178,7 +204,7 @@ fn reached_scanner(random: &mut Random) -> [u32; 4] {
     let mut reached = [window, 0, 0, 0];
     let length = random.below(3 * window as usize + 3);
     let part = jobs::job(random, window, length);
-    scanner::feed(&mut reached, &part, &mut [0; 2]);
+    scanner::feed(&mut reached, &part, &mut [0; 4]);
     reached
 }
 

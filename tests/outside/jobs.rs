@@ -18,7 +18,7 @@ pub fn window(random: &mut Random) -> u32 {
 
 /// A job of this length and of any kind.
 pub fn job(random: &mut Random, window: u32, length: usize) -> Vec<u8> {
-    match random.below(7) {
+    match random.below(8) {
         0 => vec![random.byte(); length],
         1 => few_values(random, length),
         2 => random.bytes(length),
@@ -29,6 +29,7 @@ pub fn job(random: &mut Random, window: u32, length: usize) -> Vec<u8> {
             let stay = window as usize - random.pick(&[0, shorter]);
             long_rise(random, stay, length)
         }
+        6 => borders(random, window, length),
         _ => mixed(random, window, length),
     }
 }
@@ -79,6 +80,25 @@ pub fn long_rise(random: &mut Random, stay: usize, length: usize) -> Vec<u8> {
         if job.len() < length {
             job.push(random.byte());
         }
+    }
+    job
+}
+
+/// The values between which cuts are told apart, and those beside them.
+const BORDERS: [u8; 4] = [0x1F, 0x20, 0x7E, 0x7F];
+
+/// A job of stretches in each of which no byte is larger than a border, some are equal to it, and the
+/// others are just below it or any.
+fn borders(random: &mut Random, window: u32, length: usize) -> Vec<u8> {
+    let mut job = Vec::with_capacity(length);
+    while job.len() < length {
+        let largest = random.pick(&BORDERS);
+        let stretch = (1 + random.below(3 * window as usize + 3)).min(length - job.len());
+        job.extend((0..stretch).map(|_| match random.below(6) {
+            0 | 1 => largest,
+            2 | 3 => largest - random.below(3) as u8,
+            _ => random.below(largest as usize) as u8,
+        }));
     }
     job
 }

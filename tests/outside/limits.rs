@@ -115,15 +115,19 @@ fn longest_recipes(random: &mut Random, tally: &mut Tally) -> Result<(), String>
     Ok(())
 }
 
-/// A job of 65,535 chunks of three bytes, all of them new: no job saves less.
+/// A job of 65,535 chunks of three bytes, all of them new: no job saves less or has more cuts with values
+/// above 7E.
 fn least_saving(tally: &mut Tally) -> Result<(), String> {
     let chunk = |i: usize| [i % 128 + 128, i / 128 % 128, i / 16_384].map(|byte| byte as u8);
     let job: Vec<u8> = (0..RECIPE_LIMIT).flat_map(chunk).collect();
     let fresh = Store::new([2, 0, 0], &used(job.len()), &used(DIRECTORY_LIMIT));
-    let saving = take(&fresh, RECIPE_LIMIT, &job, ACCEPTED, tally)?.saving[0];
-    let least = -147_456;
-    if saving != least {
-        return Err(format!("65,535 new chunks save {saving}, not {least}."));
+    let after = take(&fresh, RECIPE_LIMIT, &job, ACCEPTED, tally)?;
+    let (saving, cuts) = (after.saving[0], after.cuts_by_value());
+    let (least, most) = (-147_456, [0, 0, RECIPE_LIMIT as u64]);
+    if saving != least || cuts != most {
+        return Err(format!(
+            "65,535 new chunks save {saving}, not {least}, or have the cuts {cuts:?}, not {most:?}."
+        ));
     }
     Ok(())
 }
@@ -224,7 +228,13 @@ fn longest_chunks(tally: &mut Tally) -> Result<(), String> {
     let cut = expect(&Feed::new(&[WINDOW_LIMIT, 0, 0, 0], &job), ACCEPTED, tally)?;
     let fed = [&uncut.fed[..], &last.fed, &cut.fed].concat();
     let limit = u64::from(CHUNK_LIMIT);
-    if fed != [limit - 1, 0, 1, 1, limit, 1] {
+    let peak = [255 * u64::from(WINDOW_LIMIT) + 1, 255];
+    let expected = [
+        [limit - 1, 0, 0, 0],
+        [1, 1, peak[0], peak[1]],
+        [limit, 1, peak[0], peak[1]],
+    ];
+    if fed != expected.concat() {
         return Err(format!("The feeds of the longest chunk give {fed:?}."));
     }
     let fresh = Store::new([WINDOW_LIMIT, 0, 0], &used(2 * longest), &used(4));

@@ -27,6 +27,7 @@ mod limits;
 mod memory;
 mod model;
 mod pair;
+mod peaks;
 mod printed_table;
 mod promise;
 mod random;
@@ -38,6 +39,7 @@ mod shrink;
 mod store_calls;
 mod taking;
 mod tally;
+mod told;
 
 use random::Random;
 use std::process::ExitCode;
@@ -89,6 +91,7 @@ fn run(options: &Options, tally: &mut Tally) -> Result<(), String> {
     printed_table::run()?;
     examples::run(tally)?;
     feeding::run(&mut random, amount(1_200_000), tally)?;
+    peaks::run(&mut random, amount(10_000), tally)?;
     rebuilding::run(&mut random, tally)?;
     room::run(&mut random, tally)?;
     repeats::run(&mut random, amount(4_000), tally)?;

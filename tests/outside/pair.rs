@@ -2,6 +2,7 @@
 
 use crate::call::{compare, Call};
 use crate::memory::{Lent, Store};
+use crate::model::ACCEPTED;
 use crate::shrink::{shrink, Case, Smaller};
 use crate::store_calls::{Quote, Take};
 use crate::tally::Tally;
@@ -16,15 +17,17 @@ impl Pair {
         Pair(Take::new(store, recipe, job))
     }
 
-    /// Compares quote and take with the model and with each other. Gives the refusal and the take as
-    /// it was left.
+    /// Compares quote and take with the model and with each other; where they are refused, all that
+    /// they tell must be 0. Gives the refusal and the take as it was left.
     pub fn compare(&self, tally: &mut Tally) -> Result<(u32, Take), String> {
         let Take {
             store, recipe, job, ..
         } = &self.0;
         let (quoted, quote) = compare(&Quote::new(store, recipe, job), tally)?;
         let (taken, take) = compare(&self.0, tally)?;
-        if (quoted, quote.answer()) == (taken, take.answer()) {
+        let told = take.counts.iter().any(|&count| count > 0) || take.saving[0] != 0;
+        let agree = (quoted, quote.answer()) == (taken, take.answer());
+        if agree && (taken == ACCEPTED || !told) {
             return Ok((taken, take));
         }
         Err(format!(

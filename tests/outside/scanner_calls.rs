@@ -3,9 +3,11 @@
 use crate::call::{unwritten, Call};
 use crate::library;
 use crate::memory::Lent;
+use crate::model::chunks::Peak;
 use crate::model::scanner;
 use crate::shrink::{smaller_bytes, Smaller};
-use crate::tally::Operation;
+use crate::tally::{Operation, Tally};
+use crate::told::Cut;
 
 /// Opening a scanner.
 #[derive(Clone, PartialEq, Debug)]
@@ -54,8 +56,16 @@ impl Feed {
         Feed {
             scanner: Lent::new(scanner),
             part: Lent::new(part),
-            fed: unwritten(2),
+            fed: unwritten(4),
         }
+    }
+
+    /// The maximum point of the chunk that a cut ends, where the feed told of one.
+    pub fn peak(&self) -> Option<Peak> {
+        (self.fed[1] == 1).then(|| Peak {
+            place: self.fed[2],
+            value: self.fed[3],
+        })
     }
 }
 
@@ -68,6 +78,20 @@ impl Call for Feed {
 
     fn by_model(&mut self) -> u32 {
         scanner::feed(&mut self.scanner, &self.part, &mut self.fed)
+    }
+
+    fn count_told(&self, before: &Self, _refusal: u32, tally: &mut Tally) {
+        let Some(Peak { place, value }) = self.peak() else {
+            return;
+        };
+        let earlier = u64::from(before.scanner[1]);
+        let start = place.saturating_sub(earlier) as usize;
+        let after = &self.part[start..self.fed[0] as usize];
+        tally.told.count_cut(&Cut {
+            value,
+            earlier: place <= earlier,
+            tie: after.iter().any(|&byte| u64::from(byte) == value),
+        });
     }
 
     fn smaller_calls(&self) -> Smaller<'_, Self> {

@@ -3,9 +3,9 @@
 use crate::call::{unwritten, Call};
 use crate::library;
 use crate::memory::{Lent, Store};
-use crate::model::store;
+use crate::model::{store, ACCEPTED};
 use crate::shrink::{shorter, smaller_bytes, smaller_stores, without_block, Smaller};
-use crate::tally::Operation;
+use crate::tally::{Operation, Tally};
 
 /// Opening a store.
 #[derive(Clone, PartialEq, Debug)]
@@ -63,7 +63,7 @@ impl<const TAKES: bool> JobCall<TAKES> {
             store: store.clone(),
             recipe: recipe.clone(),
             job: Lent::new(job),
-            counts: unwritten(3),
+            counts: unwritten(6),
             saving: unwritten(1),
         }
     }
@@ -71,6 +71,11 @@ impl<const TAKES: bool> JobCall<TAKES> {
     /// The recipe that an accepted call left.
     pub fn written_recipe(&self) -> &[u32] {
         &self.recipe[..self.counts[0] as usize]
+    }
+
+    /// The three numbers of cuts.
+    pub fn cuts_by_value(&self) -> &[u64] {
+        &self.counts[3..]
     }
 
     /// What a quote and a take on the same inputs must leave alike: recipe, counts and saving.
@@ -99,6 +104,16 @@ impl<const TAKES: bool> Call for JobCall<TAKES> {
         } else {
             store::quote(&self.store, &mut self.recipe, &self.job, counts, saving)
         }
+    }
+
+    /// Counts the job. Each chunk before the last or the refused one is ended by a cut.
+    fn count_told(&self, before: &Self, refusal: u32, tally: &mut Tally) {
+        let after_cut = if refusal == ACCEPTED {
+            self.cuts_by_value().iter().sum::<u64>() == self.counts[0]
+        } else {
+            self.recipe != before.recipe
+        };
+        tally.told.count_job(refusal, after_cut);
     }
 
     fn smaller_calls(&self) -> Smaller<'_, Self> {

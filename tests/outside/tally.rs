@@ -2,6 +2,7 @@
 
 use crate::forged_index;
 use crate::model::{INDEX, INDEX_LENGTH};
+use crate::told::Told;
 
 /// An operation of the library.
 #[derive(Clone, Copy, PartialEq, Eq, Debug)]
@@ -54,6 +55,7 @@ pub struct Tally {
     fields: [[Fields; 5]; 2],
     indexes: [u64; forged_index::KINDS],
     higher_first: u64,
+    pub told: Told,
 }
 
 /// Counts of the checks of demand 3.
@@ -145,6 +147,7 @@ impl Tally {
             }
             println!();
         }
+        self.told.print();
         for (count, (kind, refusal, _)) in self.indexes.iter().zip(&forged_index::ALL) {
             println!("indexes {kind}: {count}, refusal {refusal}");
         }
@@ -178,6 +181,7 @@ impl Tally {
         }
         self.revision_shortfall()?;
         self.index_shortfall()?;
+        self.told.shortfall()?;
         for (operation, name, grounds) in OPERATIONS {
             for &ground in [0].iter().chain(grounds) {
                 let count = self.outcomes[operation as usize][ground as usize];

@@ -14,7 +14,7 @@ pub fn open(window: u32, scanner: &mut [u32]) -> u32 {
 }
 
 /// Moves a scanner on over a part, up to and including the byte that ends a chunk. `fed` gets the
-/// number of bytes consumed and 1 where a cut follows.
+/// number of bytes consumed and, where a cut follows, 1 and the place and value of the largest byte.
 pub fn feed(scanner: &mut [u32], part: &[u8], fed: &mut [u64]) -> u32 {
     fed.fill(0);
     let refusal = ground(scanner);
@@ -24,7 +24,8 @@ pub fn feed(scanner: &mut [u32], part: &[u8], fed: &mut [u64]) -> u32 {
     for &byte in part {
         fed[0] += 1;
         if take(scanner, u32::from(byte)) {
-            fed[1] = 1;
+            let [place, value] = [2, 3].map(|index: usize| u64::from(scanner[index]));
+            fed[1..].copy_from_slice(&[1, place, value]);
             scanner[1..].fill(0);
             break;
         }

@@ -1,5 +1,6 @@
 //! The store: quoting, taking, looking and rebuilding.
 
+use super::chunks::Chunk;
 use super::*;
 use crate::memory::Store;
 use std::collections::HashMap;
@@ -15,7 +16,8 @@ pub fn open(window: u32, head: &mut [u32]) -> u32 {
     }
 }
 
-/// Quotes a job. `counts` gets the recipe's length, the new bytes and the repeated bytes.
+/// Quotes a job. `counts` gets the recipe's length, the new bytes, the repeated bytes and the three
+/// numbers of cuts.
 pub fn quote(
     store: &Store,
     recipe: &mut [u32],
@@ -60,14 +62,16 @@ fn answer<'a>(
     if refusal != ACCEPTED {
         return Err(refusal);
     }
-    let walk = walk(store, recipe.len(), job);
+    let chunks = chunks::division(store.head[0], job);
+    let walk = walk(store, recipe.len(), &chunks);
     recipe[..walk.numbers.len()].copy_from_slice(&walk.numbers);
     if walk.refusal != ACCEPTED {
         return Err(walk.refusal);
     }
     let (job_length, new_bytes) = (job.len() as u64, walk.new_bytes);
     let places = walk.numbers.len() as u64;
-    counts.copy_from_slice(&[places, new_bytes, job_length - new_bytes]);
+    counts[..3].copy_from_slice(&[places, new_bytes, job_length - new_bytes]);
+    counts[3..].copy_from_slice(&cuts_by_value(&chunks));
     let charged = new_bytes + PACKET_CHARGE * packets(&walk.numbers);
     saving[0] = job_length as i64 - charged as i64;
     Ok(walk.new)
@@ -84,7 +88,7 @@ struct Walk<'a> {
 
 /// Goes over the chunks of a job, against those that the store holds and the new ones so far, with
 /// this many places in the recipe.
-fn walk<'a>(store: &Store, places: usize, job: &'a [u8]) -> Walk<'a> {
+fn walk<'a>(store: &Store, places: usize, chunks: &[Chunk<'a>]) -> Walk<'a> {
     let stored = lowest_numbers(store);
     let mut added: HashMap<&[u8], u32> = HashMap::new();
     let mut walk = Walk {
@@ -93,7 +97,7 @@ fn walk<'a>(store: &Store, places: usize, job: &'a [u8]) -> Walk<'a> {
         new_bytes: 0,
         refusal: ACCEPTED,
     };
-    for chunk in chunks::chunks(store.head[0], job) {
+    for chunk in chunks.iter().map(|chunk| chunk.bytes) {
         if walk.numbers.len() == places {
             walk.refusal = RECIPE_FULL;
             break;
@@ -133,6 +137,20 @@ fn room_ground(store: &Store, before: &Walk, chunk: &[u8]) -> u32 {
     } else {
         ACCEPTED
     }
+}
+
+/// How many cuts end these chunks, by the value of the maximum point: below 20, from 20 to 7E, above 7E.
+fn cuts_by_value(chunks: &[Chunk]) -> [u64; 3] {
+    let mut cuts = [0; 3];
+    for peak in chunks.iter().filter_map(|chunk| chunk.peak) {
+        let class = match peak.value {
+            ..0x20 => 0,
+            0x20..=0x7E => 1,
+            0x7F.. => 2,
+        };
+        cuts[class] += 1;
+    }
+    cuts
 }
 
 /// The packets in which the numbers of a recipe travel.
