@@ -78,14 +78,14 @@ const TAKES: &[Contestant<Case>] = &[
     ("plain Rust", |case| take_jobs(plain::store::take, case)),
     ("HashMap", take_by_map),
     #[cfg(before)]
-    ("version before", |case| take_jobs(before::take, case)),
+    (before::NAME, |case| take_jobs(before::take, case)),
 ];
 const QUOTES: &[Contestant<Case>] = &[
     ("library", |case| quote_jobs(library::quote, case)),
     ("plain Rust", |case| quote_jobs(plain::store::quote, case)),
     ("HashMap", quote_by_map),
     #[cfg(before)]
-    ("version before", |case| quote_jobs(before::quote, case)),
+    (before::NAME, |case| quote_jobs(before::quote, case)),
 ];
 
 /// Compares takes and quotes, and measures them.
@@ -155,7 +155,7 @@ pub fn compare(case: &mut Case) {
     } in &mut case.jobs
     {
         let mut recipe = case.recipe.clone();
-        let [numbers, new_bytes, _] =
+        let [numbers, new_bytes, ..] =
             compare_admissions(&mut store.clone(), &mut recipe, job).counts;
         recipe.truncate(numbers as usize);
         let quoted = map.quote(job);

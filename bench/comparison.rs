@@ -126,17 +126,23 @@ pub fn compare_admissions(store: &mut Store, recipe: &mut Vec<u32>, job: &[u8]) 
     let Head { window, chunks, .. } = store.head;
     let what = |which| format!("{which} at window {window}, after {chunks} chunks");
     let quotes = QUOTES.map(|(name, quote)| (name, run_quote(quote, store, recipe, job)));
-    let (refusal, answer, same, numbers) = agree(|| what("quotes"), quotes);
+    let quoted = agree(|| what("quotes"), quotes);
     let takes = TAKES.map(|(name, take)| (name, run_take(take, store, recipe, job)));
     let taken = agree(|| what("takes"), takes);
+    #[cfg(before)]
+    {
+        let before = run_quote(before::quote, store, recipe, job);
+        compare_before(|| what("quotes"), &quoted, before);
+        let before = run_take(before::take, store, recipe, job);
+        compare_before(|| what("takes"), &taken, before);
+    }
+    let (refusal, answer, same, numbers) = quoted;
     let unchanged = [("the store", &*store), ("what a quote leaves", &same)];
     agree(|| what("quote"), unchanged);
     if refusal != ACCEPTED {
         let unchanged = [("the store", &*store), ("what it leaves", &taken.2)];
         agree(|| what("refused take"), unchanged);
     }
-    #[cfg(before)]
-    compare_before(store, recipe, job, &taken);
     (*store, *recipe) = (taken.2, taken.3);
     let told = [
         ("quote", (refusal, answer, &numbers)),
@@ -146,31 +152,16 @@ pub fn compare_admissions(store: &mut Store, recipe: &mut Vec<u32>, job: &[u8]) 
     answer
 }
 
-/// Compares what the version before tells and leaves with a take, but for the index, which it does not know.
+/// Compares what the version before tells and leaves, but for the counts of cuts, which it does not tell.
 #[cfg(before)]
-fn compare_before(store: &Store, recipe: &[u32], job: &[u8], taken: &Left) {
-    use crate::interface::{INDEX, INDEX_LENGTH};
-    if [INDEX_LENGTH, INDEX].contains(&taken.0) {
-        return;
-    }
-    let what = || format!("{} bytes after {} chunks", job.len(), store.head.chunks);
-    let mut before = run_take(before::take, store, recipe, job);
-    before.2.index.clone_from(&taken.2.index);
-    agree(
-        what,
-        [("take", taken), ("take of the version before", &before)],
-    );
-    let (refusal, answer, _, numbers) = run_quote(before::quote, store, recipe, job);
-    let quoted = [
-        ("take", (taken.0, taken.1, &taken.3)),
-        ("quote of the version before", (refusal, answer, &numbers)),
-    ];
-    agree(what, quoted);
+fn compare_before(what: impl Fn() -> String, now: &Left, mut before: Left) {
+    before.1.counts[3..].copy_from_slice(&now.1.counts[3..]);
+    agree(what, [("library", now), (before::NAME, &before)]);
 }
 
 /// An answer that no call leaves.
 const UNTOLD: Answer = Answer {
-    counts: [1; 3],
+    counts: [1; 6],
     saving: 1,
 };
 

@@ -1,6 +1,8 @@
 //! Feeding: the library's scanner beside plain Rust scanners, and its count of a whole job's chunks beside others.
 
 use crate::agreement::{agree, Sequence};
+#[cfg(before)]
+use crate::before;
 use crate::interface::{Fed, Scanner, ACCEPTED};
 use crate::plain::{chunker, gear};
 use crate::table::{megabytes_per_second, number, Axes, Contest, Report};
@@ -11,16 +13,21 @@ use std::time::Duration;
 type Feed = fn(&mut Scanner, &[u8], &mut Fed) -> u32;
 type Count = fn(u32, &[u8]) -> u64;
 
+/// What a feed tells, and what it leaves: the refusal, the scanner and what it reports.
+type Left = (u32, Scanner, Fed);
+
 const FEEDS: [(&str, Feed); 3] = [
     ("library", library::feed),
     ("Algorithm 1", chunker::feed_1),
     ("Algorithm 2", chunker::feed_2),
 ];
-const COUNTS: [(&str, Count); 4] = [
+const COUNTS: &[(&str, Count)] = &[
     ("library", library::chunk_count),
     ("Algorithm 1", chunker::chunk_count_1),
     ("Algorithm 2", chunker::chunk_count_2),
     ("SSE2", sse2::chunk_count),
+    #[cfg(before)]
+    (before::NAME, before::chunk_count),
 ];
 const WINDOWS: [u32; 8] = [1, 2, 4, 8, 16, 32, 48, 64];
 
@@ -33,6 +40,14 @@ const SMALL_WINDOWS: [u32; 18] = [
     0, 1, 2, 3, 4, 5, 7, 8, 9, 15, 16, 17, 31, 32, 33, 63, 64, 65,
 ];
 const SMALL_JOBS: usize = 500;
+
+/// What no feed leaves in `fed`.
+const UNTOLD: Fed = Fed {
+    consumed: 1,
+    cut: 1,
+    place: u64::MAX,
+    value: u64::MAX,
+};
 
 /// A job that is fed in parts of some size, each until it is consumed.
 struct Case<'a> {
@@ -78,6 +93,7 @@ pub fn prepare(inputs: &Inputs) -> Measure<'_> {
         let title = "Feeding once a chunk";
         measure_feeds(&mut report, title, time * 2 / 5, &axes, &mut whole);
         measure_counts(&mut report, time * 2 / 5, &axes, &mut whole);
+        add_lengths(&mut report, &axes, &whole);
         let axes = Axes::new("bytes fed, window", &PART_WINDOWS, &PART_SIZES);
         let title = "Feeding label by parts";
         measure_feeds(&mut report, title, time / 5, &axes, &mut parts);
@@ -85,36 +101,48 @@ pub fn prepare(inputs: &Inputs) -> Measure<'_> {
     })
 }
 
-/// Feeds a case's job to each scanner and compares what each feed leaves and tells.
-fn compare_feeds(case: &Case, scanner: Scanner) {
-    let mut scanners = [scanner; FEEDS.len()];
+/// Feeds a case's job to a scanner and compares what each feed tells and leaves.
+fn compare_feeds(case: &Case, mut scanner: Scanner) {
+    let what = || format!("feeding {}, window {}", case.name, case.window);
     for part in case.job.chunks(case.size) {
         let mut rest = part;
         while !rest.is_empty() {
-            let contestants = FEEDS.iter().zip(&mut scanners);
-            let results = contestants.map(|((name, feed), scanner)| {
-                let mut fed = Fed {
-                    consumed: 1,
-                    cut: 1,
-                };
-                let refusal = feed(scanner, rest, &mut fed);
-                (*name, (refusal, *scanner, fed))
-            });
-            let what = || format!("feeding {}, window {}", case.name, scanner.window);
-            let (refusal, _, fed) = agree(what, results);
+            let results = FEEDS.map(|(name, feed)| (name, run_feed(feed, scanner, rest)));
+            let left = agree(what, results);
+            #[cfg(before)]
+            compare_before(what, &left, run_feed(before::feed, scanner, rest));
+            let (refusal, moved, fed) = left;
             if refusal != ACCEPTED {
                 return;
             }
+            scanner = moved;
             rest = &rest[fed.consumed as usize..];
         }
     }
+}
+
+/// What a feed tells and leaves.
+fn run_feed(feed: Feed, mut scanner: Scanner, part: &[u8]) -> Left {
+    let mut fed = UNTOLD;
+    let refusal = feed(&mut scanner, part, &mut fed);
+    (refusal, scanner, fed)
+}
+
+/// Compares what the version before tells and leaves, but for the maximum point, which it does not tell.
+#[cfg(before)]
+fn compare_before(what: impl Fn() -> String, now: &Left, mut before: Left) {
+    before.2.place = now.2.place;
+    before.2.value = now.2.value;
+    agree(what, [("library", now), (before::NAME, &before)]);
 }
 
 /// Compares the numbers of chunks of a job.
 fn compare_counts(name: &str, window: u32, job: &[u8]) {
     agree(
         || format!("chunks of {name}, window {window}, {} bytes", job.len()),
-        COUNTS.map(|(name, count)| (name, count(window, job))),
+        COUNTS
+            .iter()
+            .map(|(name, count)| (*name, count(window, job))),
     );
 }
 
@@ -193,6 +221,8 @@ fn measure_feeds(
             ("plain Rust by Algorithm 2", |case| {
                 feed_job(chunker::feed_2, case)
             }),
+            #[cfg(before)]
+            (before::NAME, |case| feed_job(before::feed, case)),
         ],
         undo: |_| (),
         unit: "MB/s",
@@ -201,7 +231,7 @@ fn measure_feeds(
     report.measure(time, &contest, axes, cases);
 }
 
-/// Measures the counts of a whole job's chunks, and tells how long these are. Gear's chunks are others.
+/// Measures the counts of a whole job's chunks. Gear's chunks are others.
 fn measure_counts(report: &mut Report, time: Duration, axes: &Axes, cases: &mut [Case]) {
     let contest = Contest {
         title: "Whole jobs",
@@ -217,12 +247,18 @@ fn measure_counts(report: &mut Report, time: Duration, axes: &Axes, cases: &mut 
             }),
             ("SSE2", |case| count_chunks(sse2::chunk_count, case)),
             ("Gear", |case| count_chunks(gear::chunk_count, case)),
+            #[cfg(before)]
+            (before::NAME, |case| count_chunks(before::chunk_count, case)),
         ],
         undo: |_| (),
         unit: "MB/s",
         figure: |case, nanoseconds| megabytes_per_second(case.job.len(), nanoseconds),
     };
     report.measure(time, &contest, axes, cases);
+}
+
+/// Adds how long the chunks are, and Gear's.
+fn add_lengths(report: &mut Report, axes: &Axes, cases: &[Case]) {
     let counts: [(&str, Count); 2] = [
         ("", chunker::chunk_count_1),
         (", by Gear", gear::chunk_count),

@@ -29,12 +29,15 @@ impl Scanner {
     }
 }
 
-/// What a feed reports: the bytes consumed; and 1 if a cut follows them, else 0.
+/// What a feed reports: the bytes consumed; 1 if a cut follows them, else 0; and at a cut the place in the chunk, counted
+/// from 1, and the value of the chunk's maximum point, else 0 and 0.
 #[repr(C)]
 #[derive(Clone, Copy, Default, PartialEq)]
 pub struct Fed {
     pub consumed: u64,
     pub cut: u64,
+    pub place: u64,
+    pub value: u64,
 }
 
 /// A store's head: the window, the number of chunks, and the pool's bytes in use.
@@ -57,10 +60,10 @@ impl Head {
     }
 }
 
-/// What a quote or a take reports: the recipe's length, the bytes of the new chunks and those of the repeated ones; and
-/// the saving.
+/// What a quote or a take reports: the recipe's length, the bytes of the new chunks and those of the repeated ones, and
+/// the job's cuts whose maximum point has a value below 0x20, from 0x20 to 0x7E, and above 0x7E; and the saving.
 #[derive(Clone, Copy, Default, PartialEq)]
 pub struct Answer {
-    pub counts: [u64; 3],
+    pub counts: [u64; 6],
     pub saving: i64,
 }

@@ -53,11 +53,11 @@ fn report(labels: &[&[u8]]) -> Report {
     let axes = Axes::new("labels, window", &WINDOWS, &rows);
     let title = |jobs| format!("Bytes on the link of {jobs}, mean");
     Report {
-        ratios: Vec::new(),
         figures: vec![
             axes.table(&title("a new job"), |case| number(costs[case].0)),
             axes.table(&title("its revision"), |case| number(costs[case].1)),
         ],
+        ..Report::default()
     }
 }
 

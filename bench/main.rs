@@ -87,5 +87,22 @@ fn main() {
     let ratios = reports.iter().flat_map(|report| &report.ratios);
     let figures = reports.iter().flat_map(|report| &report.figures);
     ratios.chain(figures).for_each(|table| println!("{table}"));
+    if cfg!(before) {
+        print_behind(&reports);
+    }
     println!("\n{} seconds", start.elapsed().as_secs());
+}
+
+/// Prints the cases in which the library is behind the version before by more than a twentieth.
+fn print_behind(reports: &[Report]) {
+    let measured = || reports.iter().flat_map(|report| &report.to_before);
+    let behind: Vec<_> = measured().filter(|(_, ratio)| *ratio < 0.95).collect();
+    println!(
+        "\nBehind the version before by more than a twentieth: {} of {} cases",
+        behind.len(),
+        measured().count()
+    );
+    for (case, ratio) in behind {
+        println!("{ratio:.3}  {case}");
+    }
 }

@@ -1,5 +1,7 @@
 //! The printed tables: ratios, and absolute figures.
 
+#[cfg(before)]
+use crate::before;
 use crate::timing::{best, Contestant, Undo};
 use std::time::Duration;
 
@@ -17,6 +19,16 @@ impl Axes {
             columns: columns.iter().map(C::to_string).collect(),
             rows: rows.iter().map(R::to_string).collect(),
         }
+    }
+
+    /// A case of the table with this title, by its row and its column.
+    #[cfg(before)]
+    fn case(&self, title: &str, case: usize) -> String {
+        let [row, column] = [case / self.columns.len(), case % self.columns.len()];
+        format!(
+            "{title}: row {}, column {}",
+            self.rows[row], self.columns[column]
+        )
     }
 
     /// A table as text, with a figure for each case.
@@ -47,11 +59,12 @@ pub struct Contest<'a, C> {
     pub figure: fn(&C, f64) -> f64,
 }
 
-/// The tables of a part of the run.
+/// The tables of a part of the run, and each case in which the version before was measured, with the ratio to it.
 #[derive(Default)]
 pub struct Report {
     pub ratios: Vec<String>,
     pub figures: Vec<String>,
+    pub to_before: Vec<(String, f64)>,
 }
 
 impl Report {
@@ -69,10 +82,16 @@ impl Report {
         for (which, (name, _)) in contest.contestants.iter().enumerate() {
             let nanoseconds = |case: usize| best.nanoseconds[case][which];
             if which > 0 {
-                let title = format!("{title}: {} / {name}", contest.contestants[0].0);
+                let about = format!("{title}: {} / {name}", contest.contestants[0].0);
                 let times = |case: usize| nanoseconds(case) / best.nanoseconds[case][0];
                 self.ratios
-                    .push(axes.table(&title, |case| ratio(times(case))));
+                    .push(axes.table(&about, |case| ratio(times(case))));
+                #[cfg(before)]
+                if *name == before::NAME {
+                    let cases = 0..cases.len();
+                    self.to_before
+                        .extend(cases.map(|case| (axes.case(title, case), times(case))));
+                }
             }
             let title = format!("{title}: {name}, {unit}, best of {rounds} rounds");
             let figure = |case: usize| (contest.figure)(&cases[case], nanoseconds(case));

@@ -20,25 +20,48 @@ impl Open {
             end: window,
         }
     }
+
+    /// The chunk that a sound scanner has open, or starts, with a part that is not empty.
+    #[inline(always)]
+    fn of(scanner: &Scanner, part: &[u8]) -> Self {
+        let window = scanner.window as usize;
+        match scanner.count as usize {
+            0 => Self::at_start(window, part),
+            count => Self {
+                at: 0,
+                max: scanner.value as u8,
+                end: scanner.place as usize + window - count - 1,
+            },
+        }
+    }
 }
 
-/// Goes over a part and tells the length up to the cut, if the chunk ends in it.
+/// Goes over a part and tells the length up to the cut, if the chunk ends in it. `open` gets the largest byte and the
+/// end.
 type Scan = fn(usize, &[u8], &mut Open) -> Option<usize>;
 
 /// Algorithm 1: each byte is compared with the largest, then its index with the end.
 #[inline(always)]
 fn algorithm_1(window: usize, part: &[u8], open: &mut Open) -> Option<usize> {
-    for (i, &byte) in part.iter().enumerate().skip(open.at) {
-        if byte <= open.max {
-            if i == open.end {
-                return Some(i + 1);
+    let Open {
+        at,
+        mut max,
+        mut end,
+    } = *open;
+    let mut cut = None;
+    for (i, &byte) in part.iter().enumerate().skip(at) {
+        if byte <= max {
+            if i == end {
+                cut = Some(i + 1);
+                break;
             }
         } else {
-            open.max = byte;
-            open.end = i + window;
+            max = byte;
+            end = i + window;
         }
     }
-    None
+    *open = Open { at, max, end };
+    cut
 }
 
 /// Algorithm 2: the bytes up to the end are only compared with the largest.
@@ -62,9 +85,14 @@ fn algorithm_2(window: usize, part: &[u8], open: &mut Open) -> Option<usize> {
     None
 }
 
-/// The length of the first chunk of a job that is not empty, by Algorithm 2.
-pub fn first_chunk(window: usize, job: &[u8]) -> usize {
-    algorithm_2(window, job, &mut Open::at_start(window, job)).unwrap_or(job.len())
+/// The first chunk of a job that is not empty, by Algorithm 2: its length, and the value of its maximum point if a cut
+/// ends it.
+pub fn first_chunk(window: usize, job: &[u8]) -> (usize, Option<u8>) {
+    let mut open = Open::at_start(window, job);
+    match algorithm_2(window, job, &mut open) {
+        Some(length) => (length, Some(open.max)),
+        None => (job.len(), None),
+    }
 }
 
 /// The number of chunks of a job; 0 where the window is refused.
@@ -122,19 +150,14 @@ fn feed(scan: Scan, scanner: &mut Scanner, part: &[u8], fed: &mut Fed) -> u32 {
     }
     let window = scanner.window as usize;
     let count = scanner.count as usize;
-    let mut open = match count {
-        0 => Open::at_start(window, part),
-        _ => Open {
-            at: 0,
-            max: scanner.value as u8,
-            end: scanner.place as usize + window - count - 1,
-        },
-    };
+    let mut open = Open::of(scanner, part);
     match scan(window, part, &mut open) {
         Some(length) => {
             *fed = Fed {
                 consumed: length as u64,
                 cut: 1,
+                place: (count + length - window) as u64,
+                value: u64::from(open.max),
             };
             *scanner = Scanner::fresh(scanner.window);
         }

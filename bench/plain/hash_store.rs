@@ -87,7 +87,7 @@ fn chunks(window: usize, job: &[u8]) -> impl Iterator<Item = &[u8]> {
         if rest.is_empty() {
             return None;
         }
-        let (chunk, after) = rest.split_at(first_chunk(window, rest));
+        let (chunk, after) = rest.split_at(first_chunk(window, rest).0);
         rest = after;
         Some(chunk)
     })

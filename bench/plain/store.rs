@@ -77,9 +77,10 @@ struct New<'a> {
     before: u32,
 }
 
-/// The new chunks of a job, in order, and the last one of each chain.
+/// The new chunks of a job, in order, their bytes, and the last chunk of each chain.
 struct NewChunks<'a> {
     chunks: Vec<New<'a>>,
+    bytes: usize,
     last: [u32; CHAINS],
 }
 
@@ -87,6 +88,7 @@ impl<'a> NewChunks<'a> {
     fn none() -> Self {
         Self {
             chunks: Vec::new(),
+            bytes: 0,
             last: [index::END; CHAINS],
         }
     }
@@ -104,14 +106,29 @@ impl<'a> NewChunks<'a> {
         None
     }
 
-    fn push(&mut self, chain: usize, chunk: &'a [u8]) {
+    /// Adds a chunk, if so many entries and pool bytes are room enough for all.
+    fn push(
+        &mut self,
+        entries: usize,
+        room: usize,
+        chain: usize,
+        chunk: &'a [u8],
+    ) -> Result<(), u32> {
+        if self.chunks.len() == entries {
+            return Err(DIRECTORY_FULL);
+        }
+        if chunk.len() > room - self.bytes {
+            return Err(POOL_FULL);
+        }
         let before = self.last[chain];
         self.last[chain] = self.chunks.len() as u32;
+        self.bytes += chunk.len();
         self.chunks.push(New {
             chunk,
             chain,
             before,
         });
+        Ok(())
     }
 }
 
@@ -126,42 +143,58 @@ fn survey<'a>(
 ) -> Result<(Answer, Vec<New<'a>>), u32> {
     refused(head, pool, directory, index, recipe, job)?;
     let entries = directory.as_chunks::<2>().0;
-    let used = &entries[..head.chunks as usize];
+    let (used, unused) = entries.split_at(head.chunks as usize);
     let room = pool.len() - head.filled as usize;
     let mut new = NewChunks::none();
-    let mut new_bytes = 0;
+    let mut cuts = [0; 3];
     let mut numbers = recipe.iter_mut();
     let mut rest = job;
     while !rest.is_empty() {
-        let (chunk, after) = rest.split_at(first_chunk(head.window as usize, rest));
+        let (length, peak) = first_chunk(head.window as usize, rest);
+        let (chunk, after) = rest.split_at(length);
+        if let Some(value) = peak {
+            cuts[kind(value)] += 1;
+        }
         let number = numbers.next().ok_or(RECIPE_FULL)?;
         let next = head.chunks + new.chunks.len() as u32;
         let chain = chain_of(chunk);
         let stored = index::search(pool, used, index, chain, chunk);
         let found = stored.or_else(|| Some(head.chunks + new.search(chain, chunk)?));
         if found.is_none() {
-            if next as usize == entries.len() {
-                return Err(DIRECTORY_FULL);
-            }
-            if chunk.len() > room - new_bytes {
-                return Err(POOL_FULL);
-            }
-            new.push(chain, chunk);
-            new_bytes += chunk.len();
+            new.push(unused.len(), room, chain, chunk)?;
         }
         *number = found.unwrap_or(next);
         rest = after;
     }
-    let unused = numbers.len();
-    let answer = answer(recipe.len() - unused, new_bytes, job.len());
+    let left = numbers.len();
+    let answer = answer(recipe.len() - left, new.bytes, job.len(), cuts);
     Ok((answer, new.chunks))
 }
 
+/// The count that a cut belongs to, by the value of its maximum point: control bytes, printable ones, those above.
+fn kind(value: u8) -> usize {
+    match value {
+        ..0x20 => 0,
+        0x20..=0x7e => 1,
+        _ => 2,
+    }
+}
+
 /// What an accepted job comes to.
-fn answer(numbers: usize, new_bytes: usize, job_bytes: usize) -> Answer {
+fn answer(numbers: usize, new_bytes: usize, job_bytes: usize, cuts: [usize; 3]) -> Answer {
     let packets = numbers.div_ceil(PACKET_NUMBERS);
+    let [control, printable, above] = cuts;
+    let repeated_bytes = job_bytes - new_bytes;
+    let counts = [
+        numbers,
+        new_bytes,
+        repeated_bytes,
+        control,
+        printable,
+        above,
+    ];
     Answer {
-        counts: [numbers, new_bytes, job_bytes - new_bytes].map(|count| count as u64),
+        counts: counts.map(|count| count as u64),
         saving: job_bytes as i64 - (new_bytes + PACKET_CHARGE * packets) as i64,
     }
 }
