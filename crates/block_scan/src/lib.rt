@@ -48,7 +48,7 @@ pub fn scan(scanner: Scanner, part: &[u8]) -> Fed
     from_middle(run, part)
 }
 
-// The first chunk of a job that is not empty. Its bytes from the last whole window on are not looked at.
+// The first chunk of a job that is not empty. Where no cut ends it, its last bytes are not looked at.
 pub fn first_chunk(window: u32, job: &[u8]) -> FirstChunk
     requires { ⌜ 1 ≤ window ⌝ }
     requires { ⌜ window ≤ windowLimit ⌝ }

@@ -1,1 +1,2 @@
 pub mod AddUp
+pub mod Examples

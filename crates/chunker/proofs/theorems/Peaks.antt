@@ -12,8 +12,9 @@ use Rattle.refusal.proofs.laws.NoGround.{no-ground}
 use Rattle.scan.specs.declared.Scanner.{Scanner}
 use Rattle.scan.specs.declared.Fed.{Fed}
 use Rattle.scan.specs.Scanner.{fresh}
+use Rattle.scan.specs.Move.{move, next}
 use Rattle.scan.specs.Scan.{uncut, scan}
-use Rattle.chunker.specs.Scanner.{windowAllowed, scannerGround}
+use Rattle.chunker.specs.Scanner.{windowAllowed, untouched, consistent, sound, scannerGround}
 use Rattle.chunker.specs.Answers.{opened, fed}
 use Rattle.chunker.specs.Chunks.{after, cutChunks, remaining, ends, cuts}
 use Rattle.chunker.specs.Method.{byteAt, MaximumPoint, FirstMaximumPoint, Division}
@@ -142,6 +143,11 @@ told w allowed since part s came cut = by-test (accepted (scannerGround s)) refl
         let scans = fed-accepted s part (no-ground _ e) in
         peak-by w allowed since s came part (fed s part) (rw scans (scanned s since 0 part)) cut
     by-test false e = absurd (true≢false (sym cut ∙ ap (λ y. y .cut) (fed-refused s part e)))
+
+-- "03 01 03 .. the tie leaving the place at 1", where 03 comes in a part of its own: each premise is met
+pub told-tie : PeakOf 2 (3 ∷ 1 ∷ 3 ∷ []) (record { place = 1; value = 3 })
+unfolding windowAllowed untouched consistent sound scannerGround opened fed scan move next
+told-tie = told 2 refl (3 ∷ []) (1 ∷ 3 ∷ []) (record { window = 2; count = 1; place = 1; value = 3 }) refl refl
 
 -- "without a cut both are 0", and so where the feed is refused
 pub untold : (s : Scanner) (part : List ℕ) → fed s part .cut ≡ false → toldPeak (fed s part) ≡ record { place = 0; value = 0 }
