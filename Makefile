@@ -15,7 +15,7 @@ help:
 	@echo "                     (about 2 minutes the first time, to prove and build the library; then at once)"
 	@echo "make peaks JOB=FILE  the chunks and cuts of a job with windows from 1 to 64, to choose one by"
 	@echo "                     (about 2 minutes the first time, to prove and build the library; then at once)"
-	@echo "make bench           the library measured beside plain Rust, a HashMap and, where its archive is there,"
+	@echo "make bench           the library measured beside plain Rust, a HashMap and, where its archives are there,"
 	@echo "                     the version before (bench/before.rs says how to make that)"
 	@echo "                     (about 5 minutes, and 2 more where the library is not built yet)"
 
