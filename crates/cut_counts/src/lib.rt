@@ -1,7 +1,7 @@
 // How many of a job's cuts are due to bytes of each of three kinds, counted chunk by chunk. The layer below the survey.
 ghost use mathlib.Core.Path.{_≡_};
-ghost use Prim.Native.Nat.{_+_, _^_, _≤_, _<_};
-ghost use Rattle.cut_counts.specs.internal.Counting.{withChunk, told};
+ghost use Prim.Native.Nat.{_+_, _^_, _<_};
+ghost use Rattle.cut_counts.specs.internal.Counting.{withChunk};
 use chunker::FirstChunk;
 
 // The printable bytes of ASCII.
@@ -16,51 +16,26 @@ pub struct CutCounts {
     pub high: u32,
 }
 
-// All cuts 0, as for a refused job.
+// No cut is counted yet.
 pub const NONE: CutCounts = CutCounts {
     low: 0,
     printable: 0,
     high: 0,
 };
 
-// The cuts so far: all, and those of low and of high values.
-pub struct Cuts {
-    pub all: u32,
-    pub low: u32,
-    pub high: u32,
-}
-
-// No chunk has come yet.
-pub const BEGUN: Cuts = Cuts {
-    all: 0,
-    low: 0,
-    high: 0,
-};
-
-// The cuts with a job's next chunk, which counts only if a cut ends it.
-pub fn with_chunk(cuts: Cuts, chunk: FirstChunk) -> Cuts
-    requires { ⌜ cuts .all + 1 < 2 ^ 32 ⌝ }
-    requires { ⌜ cuts .low + cuts .high ≤ cuts .all ⌝ }
-    ensures { λ r. ⌜ r ≡ withChunk cuts chunk ⌝ }
+// The counts with a job's next chunk, which counts only if a cut ends it.
+pub fn with_chunk(counts: CutCounts, chunk: FirstChunk) -> CutCounts
+    requires { ⌜ counts .low + counts .printable + counts .high + 1 < 2 ^ 32 ⌝ }
+    ensures { λ r. ⌜ r ≡ withChunk counts chunk ⌝ }
 {
     if !chunk.cut {
-        return cuts;
+        return counts;
     }
-    Cuts {
-        all: cuts.all + 1,
-        low: cuts.low + (chunk.value < FIRST_PRINTABLE) as u32,
-        high: cuts.high + (LAST_PRINTABLE < chunk.value) as u32,
-    }
-}
-
-// The counts of each kind: a cut that is neither low nor high is printable.
-pub fn told(cuts: Cuts) -> CutCounts
-    requires { ⌜ cuts .low + cuts .high ≤ cuts .all ⌝ }
-    ensures { λ r. ⌜ r ≡ told cuts ⌝ }
-{
+    let low = (chunk.value < FIRST_PRINTABLE) as u32;
+    let high = (LAST_PRINTABLE < chunk.value) as u32;
     CutCounts {
-        low: cuts.low,
-        printable: cuts.all - cuts.low - cuts.high,
-        high: cuts.high,
+        low: counts.low + low,
+        printable: counts.printable + (1 - low - high),
+        high: counts.high + high,
     }
 }

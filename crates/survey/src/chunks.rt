@@ -13,7 +13,7 @@ use store::Head;
 use store::JobPosition;
 
 // The ground on which a chunk of a job was refused, if one was, and what is counted of the chunks before it; the cuts are
-// the job's where none was, else 0.
+// the job's where none was.
 pub struct Surveyed {
     pub refusal: Refusal,
     pub progress: Progress,
@@ -50,10 +50,11 @@ pub fn survey(
     let mut heads = [marks::NO_PLACE; marks::OWN_CHAINS];
     let mut starts = [marks::NO_PLACE; 1024];
     let mut progress = crate::begun(head);
-    let mut cuts = cut_counts::BEGUN;
+    let mut cuts = cut_counts::NONE;
     let mut at = 0;
     while at < job.len() {
         let first = block_scan::first_chunk(head.window, &job[at..]);
+        cuts = cut_counts::with_chunk(cuts, first);
         let end = at + first.length;
         let chunk = &job[at..end];
         marks::note_start(
@@ -61,8 +62,6 @@ pub fn survey(
             progress.recipe_length as usize,
             JobPosition(at as u32),
         );
-        let sum = gear::sum_to(&entries, chunk, chunk.len());
-        cuts = cut_counts::with_chunk(cuts, first);
         let step = crate::survey_chunk(
             head,
             progress,
@@ -73,16 +72,16 @@ pub fn survey(
             &mut heads,
             &starts,
             job,
-            sum,
+            gear::sum_to(&entries, chunk, chunk.len()),
             chunk,
         );
         let refusal = step.refusal;
         let next = step.progress;
         if !refusal::accepted(refusal) {
-            return outcome(refusal, next, cut_counts::NONE);
+            return outcome(refusal, next, cuts);
         }
         progress = next;
         at = end;
     }
-    outcome(Refusal::Accepted, progress, cut_counts::told(cuts))
+    outcome(Refusal::Accepted, progress, cuts)
 }

@@ -39,14 +39,14 @@ start-of t = t .before .before .before .before .before .before .before .before
 abbrev turn-of : tie.After-first-chunk Inv-loop μ-loop → tie.At-loop Inv-loop μ-loop
 turn-of c = c .before .before .before
 
+abbrev count-of : tie.After-note-start Inv-loop μ-loop → tie.After-with-chunk Inv-loop μ-loop
+count-of c = c .before .before .before .before .before
+
 abbrev call-of : tie.After-note-start Inv-loop μ-loop → tie.After-first-chunk Inv-loop μ-loop
-call-of c = c .before .before .before .before .before
+call-of c = count-of c .before
 
 abbrev note-of : tie.After-sum-to Inv-loop μ-loop → tie.After-note-start Inv-loop μ-loop
-note-of c = c .before .before
-
-abbrev count-of : tie.After-survey-chunk Inv-loop μ-loop → tie.After-with-chunk Inv-loop μ-loop
-count-of c = c .before .before .before .before
+note-of c = c .before .before .before .before .before
 
 abbrev chunk-of : tie.After-accepted Inv-loop μ-loop → tie.After-survey-chunk Inv-loop μ-loop
 chunk-of c = c .before .before .before .before
@@ -118,51 +118,49 @@ handed : (c : tie.After-first-chunk Inv-loop μ-loop)
     → turn-of c .loop .at + c .first-chunk .result .length - turn-of c .loop .at ≡ c .first-chunk .result .length
 handed c = omega arith
 
+with-chunk-requires : tie.Need-with-chunk-requires Inv-loop μ-loop
+with-chunk-requires c κs =
+    let inv = turn-of c .loop .inv in
+    omega (arith, inv .2 .few, inv .0 .begun .jobLength, c .before .before .loop-test .taken)
+
 add-end : tie.Need-add-end Inv-loop μ-loop
-add-end c = omega (arith, within (c .before))
+add-end c = omega (arith, within (c .before .before))
 
 sub-chunk : tie.Need-sub-chunk Inv-loop μ-loop
-sub-chunk c = omega (arith, within (c .before))
+sub-chunk c = omega (arith, within (c .before .before))
 
 part-chunk-start : tie.Need-part-chunk-start Inv-loop μ-loop
-part-chunk-start c = omega (arith, within (c .before))
+part-chunk-start c = omega (arith, within (c .before .before))
 
 part-chunk-end : tie.Need-part-chunk-end Inv-loop μ-loop
-part-chunk-end c = omega (arith, within (c .before))
+part-chunk-end c = omega (arith, within (c .before .before))
 
 cast-note-start : tie.Need-cast-note-start Inv-loop μ-loop
 cast-note-start c = search needs
 
-cast-t30 : tie.Need-cast-t30 Inv-loop μ-loop
-cast-t30 c =
-    let call = c .before .before .before .before in
+cast-survey-chunk : tie.Need-cast-survey-chunk Inv-loop μ-loop
+cast-survey-chunk c =
+    let call = c .before .before .before .before .before in
     omega (arith, turn-of call .loop .inv .0 .begun .jobLength, call .before .before .loop-test .taken)
 
 note-start-requires : tie.Need-note-start-requires Inv-loop μ-loop
 note-start-requires c κs =
-    let turn = turn-of (c .before .before .before .before) in
+    let turn = turn-of (c .before .before .before .before .before) in
     let s = turn .loop .inv .0 in
     omega (arith, ap (λ f. f .progress .«recipe_length») (s .state), s .used, s .begun .recipeLength)
 
 sum-to-requires : tie.Need-sum-to-requires Inv-loop μ-loop
 sum-to-requires c κs = search needs
 
-with-chunk-requires : tie.Need-with-chunk-requires Inv-loop μ-loop
-with-chunk-requires c κs =
-    let call = call-of (note-of c) in
-    let inv = turn-of call .loop .inv in
-    omega (arith, inv .2 .few, inv .2 .fits, inv .0 .begun .jobLength, call .before .before .loop-test .taken)
-
 survey-chunk-requires : tie.Need-survey-chunk-requires Inv-loop μ-loop
 survey-chunk-requires c κs =
-    let summing = c .before .before .before .before in
-    let note = note-of summing in
+    let note = note-of c in
     let call = call-of note in
     let turn = turn-of call in
     let s = turn .loop .inv .0 in
     let part = take (turn .loop .at + call .first-chunk .result .length - turn .loop .at) (drop (turn .loop .at) (job-of turn)) in
     let chunk = ap (λ n. take n (drop (turn .loop .at) (job-of turn))) (handed call) in
-    let summed : summing .sum-to .result ≡ sum part = summing .sum-to .ensures ∙ ap sum (take-length part) in (
+    let summed : c .sum-to .result ≡ sum part = c .sum-to .ensures ∙ ap sum (take-length part) in (
       lent s _ (next-of call),
       (rw (note .note-start .ensures) (marked s _ (next-of call)), rw chunk (next-in s _ (next-of call) _ (rw chunk at summed))),
     )
@@ -172,8 +170,8 @@ accepted-requires c κs = search needs
 
 -- so far memory keeps its lengths
 kept-of : (c : tie.After-accepted Inv-loop μ-loop)
-    → length (chunk-of c .survey-chunk .last .1 .1 .1 .1 .1 .0) ≡ length (start-of (turn-of (call-of (note-of (count-of (chunk-of c) .before)))) .args .recipe .now)
-kept-of c = chunk-of c .survey-chunk .kept .1 .1 .1 .1 .1 .0 ∙ turn-of (call-of (note-of (count-of (chunk-of c) .before))) .loop .inv .1
+    → length (chunk-of c .survey-chunk .last .1 .1 .1 .1 .1 .0) ≡ length (start-of (turn-of (call-of (note-of (chunk-of c .before)))) .args .recipe .now)
+kept-of c = chunk-of c .survey-chunk .kept .1 .1 .1 .1 .1 .0 ∙ turn-of (call-of (note-of (chunk-of c .before))) .loop .inv .1
 
 outcome-requires : tie.Need-outcome-requires Inv-loop μ-loop
 outcome-requires c κs = search needs
@@ -185,7 +183,7 @@ returns : tie.Need-returns Inv-loop μ-loop
 returns c =
     let stop = c .before in
     let call = chunk-of (stop .before) in
-    let found = call-of (note-of (count-of call .before)) in
+    let found = call-of (note-of (call .before)) in
     let s = rw (handed found) at (call .survey-chunk .ensures .0) in
     let tested = sym (stop .before .accepted .ensures) ∙ not-true _ (stop .if1 .taken) in
     let refused = sym (ap (λ o. accepted (o .refusal)) s) ∙ tested in
@@ -196,14 +194,14 @@ returns c =
 
 loop-less : tie.Need-loop-less Inv-loop μ-loop
 loop-less c =
-    let call = call-of (note-of (count-of (chunk-of (c .before)) .before)) in
+    let call = call-of (note-of (chunk-of (c .before) .before)) in
     omega (arith, next-of call .some, within call)
 
 loop-again : tie.Need-loop-again Inv-loop μ-loop
 loop-again c =
     let passed = c .before in
     let call = chunk-of passed in
-    let note = note-of (count-of call .before) in
+    let note = note-of (call .before) in
     let found = call-of note in
     let s = rw (handed found) at (call .survey-chunk .ensures .0) in
     let own = rw (handed found) at (call .survey-chunk .ensures .1) in
@@ -214,25 +212,22 @@ loop-again c =
     let counted = counting-more (inv .2) (inv .0 .begun .window) (found .first-chunk .result) (fed-of found) (next-of found .some) in (
       surveying-same (sym (ap (λ o. o .snapshot) s)) (sym own) (sym (note .note-start .ensures)) on,
       kept-of passed,
-      rw (count-of call .with-chunk .ensures) counted,
+      rw (count-of note .with-chunk .ensures) counted,
     )
-
-told-requires : tie.Need-told-requires Inv-loop μ-loop
-told-requires c κs = c .before .loop .inv .2 .fits
 
 outcome-requires-2 : tie.Need-outcome-requires-2 Inv-loop μ-loop
 outcome-requires-2 c κs = search needs
 
 same-length-2 : tie.Need-same-length-2 Inv-loop μ-loop
-same-length-2 c = c .before .before .before .loop .inv .1
+same-length-2 c = c .before .before .loop .inv .1
 
 returns-2 : tie.Need-returns-2 Inv-loop μ-loop
 returns-2 c =
-    let past = c .before .before in
+    let past = c .before in
     let inv = past .before .loop .inv in
     rw (c .outcome2 .ensures) (
       surveying-ends (inv .0) (past .loop-test .left),
-      λ _. c .before .told .ensures ∙ counting-ends (inv .2) (omega (arith, past .loop-test .left)),
+      λ _. counting-ends (inv .2) (omega (arith, past .loop-test .left)),
     )
 
 pub survey-spec : {M : Type 1} → statement M
@@ -248,15 +243,15 @@ survey-spec =
     part-first-chunk-start
     part-first-chunk-end
     first-chunk-requires
+    with-chunk-requires
     add-end
     sub-chunk
     part-chunk-start
     part-chunk-end
     cast-note-start
-    cast-t30
+    cast-survey-chunk
     note-start-requires
     sum-to-requires
-    with-chunk-requires
     survey-chunk-requires
     accepted-requires
     outcome-requires
@@ -264,7 +259,6 @@ survey-spec =
     returns
     loop-less
     loop-again
-    told-requires
     outcome-requires-2
     same-length-2
     returns-2)
