@@ -15,8 +15,9 @@ pub extern "C" fn hirunvel_scanner_open(window: u32, scanner: &mut [u32; 4]) -> 
 
 // Moves the scanner on over a part; tells the bytes consumed, 1 if a cut follows them, and then the place and the value of
 // the chunk's maximum point. Refused by grounds 1 and 2, with the scanner untouched and zeros told. Fed once per chunk, a
-// scanner is fresh at each call: a small window then takes a fast path, and a cut leaves the numbers as they are. The part
-// is lent on as a slice of its own, so that on the fast path it stays in registers.
+// scanner is fresh at each call: a small window then takes a fast path, and a cut leaves the numbers as they are. What is
+// refused or empty goes the other way, and the part is lent on as a slice of its own, so that the fast path needs few
+// registers.
 #[no_mangle]
 pub extern "C" fn hirunvel_scanner_feed(
     scanner: &mut [u32; 4],
@@ -27,7 +28,7 @@ pub extern "C" fn hirunvel_scanner_feed(
         ≡ scannerFed (now (scanner .entry)) (now (part .entry)) ⌝ }
 {
     let lent = *scanner;
-    if 8 <= lent[0] {
+    if lent[0] < 1 || 8 <= lent[0] || part.len() == 0 {
         return feed_general(scanner, &part[0..], fed);
     }
     if !numbers::untouched(lent) {

@@ -15,8 +15,7 @@ pub extern "C" fn hirunvel_store_open(window: u32, head: &mut [u32; 3]) -> u32
 }
 
 // Quotes a job: tells the recipe's length, the new and the repeated bytes, the cuts of each kind, and the saving, and writes
-// only the recipe.
-// Refused by grounds 1, 3 to 8, 11 and 12, with zeros told.
+// only the recipe. Refused by grounds 1, 3 to 8, 11 and 12, with zeros told.
 #[no_mangle]
 pub extern "C" fn hirunvel_store_quote(
     head: &[u32; 3],

@@ -13,6 +13,9 @@ use Rattle.hirunvel.proofs.scanning.hirunvel_scanner_feed.Tie as tie
 array-read-if1 : tie.Need-array-read-if1
 array-read-if1 c = search needs
 
+array-read-if2 : tie.Need-array-read-if2
+array-read-if2 c = search needs
+
 sub-feed-general : tie.Need-sub-feed-general
 sub-feed-general c = search needs
 
@@ -47,7 +50,7 @@ feed-general-requires-2 c κs = search needs
 
 returns-2 : tie.Need-returns-2
 returns-2 c =
-    let a = c .before .before .before .before .before .before .before .before .before .args in
+    let a = c .before .before .before .before .before .before .before .before .before .before .before .args in
     c .feed-general2 .ensures ∙ ap (scannerFed (a .scanner .now)) (rest-whole (a .part .now) 0)
 
 array-read-feed-fresh : tie.Need-array-read-feed-fresh
@@ -70,12 +73,12 @@ returns-3 c =
     let joined = c .before in
     let told = joined .before .before in
     let feed = told .before in
-    let a = feed .before .before .before .before .before .before .args in
-    let start = feed .before .before .untouched .ensures (not-false _ (feed .before .if2 .left)) in
-    let scanner : joined .if3 .scanner ≡ numbersOf (feed .feed-fresh .result .scanner) =
+    let a = feed .before .before .before .before .before .before .before .before .args in
+    let start = feed .before .before .untouched .ensures (not-false _ (feed .before .if4 .left)) in
+    let scanner : joined .if5 .scanner ≡ numbersOf (feed .feed-fresh .result .scanner) =
     ⊎-elim (λ moved. moved .2 ∙ moved .1 .ensures)
     (λ kept. kept .1 ∙ sym (cut-keeps (a .scanner .now) start (a .part .now) _ (feed .feed-fresh .ensures) (not-false _ (kept .0 .left))))
-    (joined .if3 .came) in
+    (joined .if5 .came) in
     rw (fed-starts (a .scanner .now) start (a .part .now) _ (feed .feed-fresh .ensures), c .of-refusal .ensures, scanner, told .of-fed .ensures)
 
 pub hirunvel-scanner-feed-spec : {M : Type 1} → statement M
@@ -83,6 +86,7 @@ hirunvel-scanner-feed-spec =
     tie.close
     (tie.spec
     array-read-if1
+    array-read-if2
     sub-feed-general
     part-feed-general-start
     part-feed-general-end
