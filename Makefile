@@ -43,8 +43,9 @@ peaks: job target/staticlib/libhirunvel.a
 
 # Measures the library beside plain implementations of the same operations, and beside the version before if both of its
 # archives are there. Without position-independent code the calls of the archives are direct, as those of the plain ones
-# are. The functions of all are placed at multiples of 64 bytes, those of the archives in copies: elsewhere the same
-# machine code can be half or twice as fast.
+# are. Where machine code lies changes how fast it is: the functions of the archives are placed at multiples of PLACE bytes,
+# in copies, the plain ones at multiples of 64. What is slower because of its code is slower in more than one place.
+PLACE ?= 64
 libraries := target/staticlib/libhirunvel.a target/staticlib/libchunk_count.a
 before := target/bench/before/libhirunvel_before.a target/bench/before/libchunk_count_before.a
 found_before = $(if $(filter 2,$(words $(wildcard $(before)))),$(before))
@@ -53,7 +54,7 @@ bench: $(libraries)
 	@mkdir -p target/bench/placed
 	@python3 bench/inputs.py target/bench
 	@for archive in $(libraries) $(found_before); do \
-	    objcopy --set-section-alignment '.text*=64' $$archive target/bench/placed/$${archive##*/} || exit; done
+	    objcopy --set-section-alignment '.text*=$(PLACE)' $$archive target/bench/placed/$${archive##*/} || exit; done
 	@rustc --edition 2021 -O --check-cfg 'cfg(before)' $(if $(found_before),--cfg before) -C relocation-model=static \
 	    -C llvm-args=-align-all-functions=6 -L native=target/bench/placed -o target/bench/bench bench/main.rs
 	@target/bench/bench target/bench

@@ -5,7 +5,7 @@ use crate::comparison::compare_admissions;
 use crate::interface::{Answer, Head};
 use crate::store::Store;
 use crate::table::{number, ratio, Axes, Report};
-use crate::timing::{best, Contestant};
+use crate::timing::{quartiles, Contestant};
 use crate::{library, plain, Inputs, Measure};
 use std::hint::black_box;
 use std::time::Duration;
@@ -67,12 +67,12 @@ fn quote_often(
 
 /// Measures, and gives the nanoseconds for each chunk and their ratio.
 fn measure(time: Duration, stores: &mut [Store]) -> Report {
-    let best = best(time, stores, &CONTESTANTS, |_| ());
+    let quartiles = quartiles(time, stores, &CONTESTANTS, |_| ());
     let columns = STORES.len() - 1;
     let a_chunk = |case: usize, which: usize| {
         let (row, column) = (case / columns, 1 + case % columns);
         let [empty, filled] = [0, column].map(|column| row * STORES.len() + column);
-        let [empty, filled] = [empty, filled].map(|case| best.nanoseconds[case][which]);
+        let [empty, filled] = [empty, filled].map(|case| quartiles.nanoseconds[case][which]);
         (filled - empty) / (QUOTES * STORES[column]) as f64
     };
     let rows: Vec<_> = WINDOWS
@@ -89,8 +89,8 @@ fn measure(time: Duration, stores: &mut [Store]) -> Report {
         }));
     for (which, (name, _)) in CONTESTANTS.iter().enumerate() {
         let about = format!(
-            "{name}, nanoseconds a chunk, best of {} rounds",
-            best.rounds
+            "{name}, nanoseconds a chunk, lower quartile of {} rounds",
+            quartiles.rounds
         );
         report
             .figures

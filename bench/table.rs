@@ -2,7 +2,7 @@
 
 #[cfg(before)]
 use crate::before;
-use crate::timing::{best, Contestant, Undo};
+use crate::timing::{quartiles, Contestant, Undo};
 use std::time::Duration;
 
 /// What stands above the columns and before the rows. Case `row * columns.len() + column` stands in a row and a column.
@@ -77,13 +77,13 @@ impl Report {
         cases: &mut [C],
     ) {
         let Contest { title, unit, .. } = contest;
-        let best = best(time, cases, contest.contestants, contest.undo);
-        let rounds = best.rounds;
+        let quartiles = quartiles(time, cases, contest.contestants, contest.undo);
+        let rounds = quartiles.rounds;
         for (which, (name, _)) in contest.contestants.iter().enumerate() {
-            let nanoseconds = |case: usize| best.nanoseconds[case][which];
+            let nanoseconds = |case: usize| quartiles.nanoseconds[case][which];
             if which > 0 {
                 let about = format!("{title}: {} / {name}", contest.contestants[0].0);
-                let times = |case: usize| nanoseconds(case) / best.nanoseconds[case][0];
+                let times = |case: usize| nanoseconds(case) / quartiles.nanoseconds[case][0];
                 self.ratios
                     .push(axes.table(&about, |case| ratio(times(case))));
                 #[cfg(before)]
@@ -93,7 +93,7 @@ impl Report {
                         .extend(cases.map(|case| (axes.case(title, case), times(case))));
                 }
             }
-            let title = format!("{title}: {name}, {unit}, best of {rounds} rounds");
+            let title = format!("{title}: {name}, {unit}, lower quartile of {rounds} rounds");
             let figure = |case: usize| (contest.figure)(&cases[case], nanoseconds(case));
             self.figures
                 .push(axes.table(&title, |case| number(figure(case))));

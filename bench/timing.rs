@@ -1,5 +1,6 @@
 //! Interleaved measuring: each round gives every contestant a turn at every case, in an order that changes from round
-//! to round, and the best of all rounds counts.
+//! to round. The lower quartile of all rounds counts: the single best round of the same machine code comes out up to a
+//! tenth apart, the quartile at most a twentieth.
 
 use std::hint::black_box;
 use std::time::{Duration, Instant};
@@ -13,8 +14,8 @@ pub type Contestant<C> = (&'static str, fn(&mut C));
 /// What follows a turn: it leaves the case as the next turn has to find it, and is not timed.
 pub type Undo<C> = fn(&mut C);
 
-/// The least nanoseconds of a turn, by case and contestant, and the number of rounds.
-pub struct Best {
+/// The lower quartile of the nanoseconds of a turn, by case and contestant, and the number of rounds.
+pub struct Quartiles {
     pub rounds: usize,
     pub nanoseconds: Vec<Vec<f64>>,
 }
@@ -29,32 +30,40 @@ fn who(round: usize, turn: usize, contestants: usize) -> usize {
 }
 
 /// Measures for a time, and for as many rounds as there are contestants at least, so that each comes first once.
-pub fn best<C>(
+pub fn quartiles<C>(
     time: Duration,
     cases: &mut [C],
     contestants: &[Contestant<C>],
     undo: Undo<C>,
-) -> Best {
-    let mut best = Best {
-        rounds: 0,
-        nanoseconds: vec![vec![f64::INFINITY; contestants.len()]; cases.len()],
-    };
+) -> Quartiles {
+    let mut rounds = 0;
+    let mut turns = vec![vec![Vec::new(); contestants.len()]; cases.len()];
     let start = Instant::now();
-    while best.rounds < contestants.len() || start.elapsed() < time {
-        for (case, least) in cases.iter_mut().zip(&mut best.nanoseconds) {
+    while rounds < contestants.len() || start.elapsed() < time {
+        for (case, turns) in cases.iter_mut().zip(&mut turns) {
             for turn in 0..contestants.len() {
-                let which = who(best.rounds, turn, contestants.len());
-                if least[which] < SHORT {
+                let which = who(rounds, turn, contestants.len());
+                if turns[which].last().is_some_and(|&last| last < SHORT) {
                     contestants[which].1(black_box(case));
                     undo(case);
                 }
                 let begun = Instant::now();
                 contestants[which].1(black_box(case));
-                least[which] = least[which].min(begun.elapsed().as_nanos() as f64);
+                turns[which].push(begun.elapsed().as_nanos() as f64);
                 undo(case);
             }
         }
-        best.rounds += 1;
+        rounds += 1;
     }
-    best
+    let of_case = |turns: Vec<_>| turns.into_iter().map(lower_quartile).collect();
+    Quartiles {
+        rounds,
+        nanoseconds: turns.into_iter().map(of_case).collect(),
+    }
+}
+
+/// The lower quartile of some times.
+fn lower_quartile(mut times: Vec<f64>) -> f64 {
+    let place = times.len() / 4;
+    *times.select_nth_unstable_by(place, f64::total_cmp).1
 }
