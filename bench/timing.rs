@@ -1,6 +1,6 @@
 //! Interleaved measuring: each round gives every contestant a turn at every case, in an order that changes from round
-//! to round. The lower quartile of all rounds counts: the single best round of the same machine code comes out up to a
-//! tenth apart, the quartile at most a twentieth.
+//! to round. The lower quartile of all rounds counts: rounds that something else held up do not move it, nor does the
+//! one in which every branch was predicted by luck, so that it scatters less than the best.
 
 use std::hint::black_box;
 use std::time::{Duration, Instant};
