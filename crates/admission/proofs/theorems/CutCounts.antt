@@ -57,6 +57,13 @@ module _ (head : Head) (pool directory index recipe job : List ℕ) where
       by-ground true e r = by-walk (accepted (whole .refusal)) refl r
       by-ground false e r = refl
 
+  -- of a take too
+  pub refused-take-no-cuts : accepted (taken head pool directory index recipe job .answer .quoted .refusal) ≡ false
+      → taken head pool directory index recipe job .answer .quoted .cuts ≡ noCuts
+  refused-take-no-cuts h =
+      ap (λ q. q .answer .cuts) (same-quotation head pool directory index recipe job)
+      ∙ refused-no-cuts (ap accepted (sym (same-refusal head pool directory index recipe job)) ∙ h)
+
 -- any two stores of one window, whatever they hold, tell the same counts of a job that both accept
 pub any-store : (head head′ : Head) (pool pool′ directory directory′ index index′ recipe recipe′ job : List ℕ)
     → head .window ≡ head′ .window
