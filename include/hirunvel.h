@@ -148,7 +148,7 @@ uint32_t hirunvel_scanner_finish(uint32_t scanner[4], uint64_t *count);
  * HIRUNVEL_INDEX holds unless the chains, each followed from its head to its end, meet every chunk of the store just
  * once, on the chain of its own sum, and nothing else. The order of the chunks on a chain does not matter, and links
  * of entries that are not in use are not read. Every quote and take tests this, which takes time in proportion to the
- * number of chunks in the store, however short the job is: about 10 nanoseconds a chunk, or up to 50 if the chunks were
+ * number of chunks in the store, however short the job is: about 10 nanoseconds a chunk, or some 50 if the chunks were
  * not entered in the order of their numbers. So a job of fewer than some 20 to 45 chunks is slower than a linear search
  * of the store for them would be.
  *
