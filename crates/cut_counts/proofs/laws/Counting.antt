@@ -2,7 +2,7 @@
 use Prim.Native.Nat.{ℕ, _+_, _-_, _≤_}
 use native.Mathlib.Omega.{arith}
 use native.Mathlib.Nat.{add-zero, zero-add, add-assoc}
-use mathlib.Core.Path.{_≡_, refl, sym, ap, _∙_}
+use mathlib.Core.Path.{_≡_, refl, ap, _∙_}
 use mathlib.Core.Bool.{Bool, true, false, cond}
 use mathlib.Core.List.{List, [], _∷_, _++_, map}
 use lib.ListN.{length, drop, drop-of-length-le}
@@ -60,7 +60,7 @@ counts-chunk c f ps = by-cut (f .cut)
     by-cut false = refl
 
 -- nothing has no cuts
-pub counts-none : (w : ℕ) → cutCounts w [] ≡ noCuts
+counts-none : (w : ℕ) → cutCounts w [] ≡ noCuts
 unfolding cutCounts countsOf
 counts-none w = rw (no-peaks w)
 
