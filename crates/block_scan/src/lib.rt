@@ -2,14 +2,14 @@
 // the chunker.
 ghost use mathlib.Core.Path.{_≡_};
 ghost use lib.ListN.{length};
-ghost use Prim.Native.Nat.{_+_, min, _≤_, _<_};
+ghost use Prim.Native.Nat.{min, _≤_, _<_};
 ghost use Rattle.scan.specs.Limits.{windowLimit};
 ghost use Rattle.scan.specs.Scanner.{fresh};
 ghost use Rattle.scan.specs.Scan.{scan, firstChunk};
 ghost use Rattle.scan.specs.internal.Sound.{Sound};
 ghost use Rattle.scan.specs.internal.Run.{Going, rest};
 ghost use Rattle.block_scan.specs.internal.Advance.{Advanced, Ended};
-ghost use Rattle.block_scan.specs.internal.Peaks.{atPeak};
+ghost use Rattle.block_scan.specs.internal.Peaks.{AtLargest, atPeak};
 
 mod windows;
 
@@ -46,6 +46,20 @@ pub fn scan(scanner: Scanner, part: &[u8]) -> Fed
         return by_windows(run, part);
     }
     from_middle(run, part)
+}
+
+// Moves a fresh scanner on over a part that is not empty.
+pub fn from_start(window: u32, part: &[u8]) -> Fed
+    requires { ⌜ 1 ≤ window ⌝ }
+    requires { ⌜ window ≤ windowLimit ⌝ }
+    requires { ⌜ 1 ≤ length (now part) ⌝ }
+    ensures { λ r. ⌜ r ≡ scan (fresh window) 0 (now (part .entry)) ⌝ }
+{
+    let run = run::begun(scan::fresh(window), part);
+    if run.window < SMALLEST {
+        return run::by_bytes(run::pass_one(run, part), part);
+    }
+    by_windows(run, part)
 }
 
 // The first chunk of a job that is not empty. Where no cut ends it, its last bytes are not looked at.
@@ -93,21 +107,29 @@ fn min(a: usize, b: usize) -> usize
 // Window by window, from a byte that is the largest so far.
 fn by_windows(run: Run, part: &[u8]) -> Fed
     requires { ⌜ Going run (now part) ⌝ }
-    requires { ⌜ run .deadline ≡ run .at + run .window ⌝ }
+    requires { ⌜ AtLargest run (now part) ⌝ }
     requires { ⌜ 8 ≤ run .window ⌝ }
     ensures { λ r. ⌜ r ≡ rest run (now (part .entry)) ⌝ }
 {
     let after = windows::settled(run.window, part, run.at, run.value);
     let deadline = after + run.window;
-    if deadline <= part.len() {
-        return run::cut(at_peak(run, part, after));
+    if part.len() < deadline {
+        return run::passed(to_end(at_peak(run, part, after), part));
     }
-    run::passed(to_end(at_peak(run, part, after), part))
+    run::cut(Run {
+        window: run.window,
+        base: run.base,
+        deadline,
+        value: part[after - 1],
+        at: after,
+    })
 }
 
-// The run where it has settled, past its largest byte so far.
+// The run where it has settled, past its largest byte so far. Where it stayed, the byte is not read again.
 fn at_peak(run: Run, part: &[u8], after: usize) -> Run
     requires { ⌜ run .window ≤ windowLimit ⌝ }
+    requires { ⌜ AtLargest run (now part) ⌝ }
+    requires { ⌜ run .at ≤ after ⌝ }
     requires { ⌜ after ≤ length (now part) ⌝ }
     ensures { λ r. ⌜ r ≡ atPeak run (now (part .entry)) after ⌝ }
 {

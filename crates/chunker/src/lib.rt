@@ -74,8 +74,7 @@ pub fn feed(scanner: Scanner, part: &[u8]) -> Fed
     block_scan::scan(scanner, part)
 }
 
-// Moves a fresh scanner on over a part, byte by byte, with the same answer: cheaper for a small window.
-// Refused by ground 1.
+// Moves a fresh scanner on over a part, with the same answer. Refused by ground 1.
 pub fn feed_fresh(window: u32, part: &[u8]) -> Fed
     ensures { λ r. ⌜ r ≡ fed (fresh window) (now (part .entry)) ⌝ }
 {
@@ -85,7 +84,7 @@ pub fn feed_fresh(window: u32, part: &[u8]) -> Fed
     if part.len() == 0 {
         return unmoved(Refusal::Accepted, window);
     }
-    scan::from_start(window, part)
+    block_scan::from_start(window, part)
 }
 
 // The answer of a fresh scanner that passes no byte.

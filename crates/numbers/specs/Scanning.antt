@@ -18,9 +18,9 @@ numbersOf s = s .window ∷ s .count ∷ s .place ∷ s .value ∷ []
 abbrev pub scannerOf : List ℕ → Scanner
 scannerOf n = record { window = getD n 0 0; count = getD n 1 0; place = getD n 2 0; value = getD n 3 0 }
 
--- the first of the grounds 1 and 2 that holds of a scanner whose value is over 255, which is not sound
-abbrev pub overGround : ℕ → Refusal
-overGround w = first (windowGround w ∷ Unsound ∷ [])
+-- the first of the grounds 1 and 2 that holds of a scanner that is not sound
+abbrev pub unsoundGround : ℕ → Refusal
+unsoundGround w = first (windowGround w ∷ Unsound ∷ [])
 
 -- "The answer says how many bytes were consumed and whether a cut follows", which 1 tells, and "the place and value of its
 -- maximum point"

@@ -5,7 +5,8 @@ ghost use Prim.Native.Nat.{_≤_};
 ghost use lib.ListN.{getD};
 ghost use Rattle.refusal.specs.Number.{numberOf};
 ghost use Rattle.scan.specs.Scanner.{fresh};
-ghost use Rattle.numbers.specs.Scanning.{numbersOf, scannerOf, overGround, told};
+ghost use Rattle.chunker.specs.Scanner.{untouched};
+ghost use Rattle.numbers.specs.Scanning.{numbersOf, scannerOf, unsoundGround, told};
 use chunker::Fed;
 use chunker::Scanner;
 use refusal::Refusal;
@@ -41,9 +42,9 @@ pub fn scanner_of(numbers: ScannerNumbers) -> Scanner
     }
 }
 
-// The result for a scanner whose value is over 255: the first of the grounds 1 and 2.
-pub fn value_over_255(window: u32) -> u32
-    ensures { λ r. ⌜ r ≡ numberOf (overGround window) ⌝ }
+// The result for a scanner that is not sound: the first of the grounds 1 and 2.
+pub fn unsound(window: u32) -> u32
+    ensures { λ r. ⌜ r ≡ numberOf (unsoundGround window) ⌝ }
 {
     if chunker::window_allowed(window) {
         return crate::of_refusal(Refusal::Unsound);
@@ -53,6 +54,7 @@ pub fn value_over_255(window: u32) -> u32
 
 // Whether no byte came since the last cut, so that the numbers are those of a fresh scanner.
 pub fn untouched(numbers: ScannerNumbers) -> bool
+    ensures { λ r. ⌜ r ≡ untouched (scannerOf numbers) ⌝ }
     ensures { λ r. ⌜ (r ≡ true → numbers ≡ numbersOf (fresh (getD numbers 0 0))) ⌝ }
 {
     if numbers[1] != 0 {

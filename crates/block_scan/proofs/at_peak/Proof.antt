@@ -1,10 +1,11 @@
 -- `block_scan::at_peak` meets its contract.
+use Prim.Native.Nat.{_-_}
 use native.Mathlib.Omega.{arith}
-use mathlib.Core.Path.{_≡_}
+use mathlib.Core.Path.{_≡_, ap, _∙_}
 use mathlib.Core.Logic.{⊎-elim}
+use lib.ListN.{getD}
 use borrow.Author.Needs.{needs}
-use borrow.Author.Tests.{lt-ltb, le-ltb}
-use Rattle.block_scan.specs.internal.Peaks.{peakValue, atPeak}
+use Rattle.block_scan.specs.internal.Peaks.{atPeak}
 use Rattle.block_scan.proofs.at_peak.Statement.{statement}
 use Rattle.block_scan.proofs.at_peak.Tie as tie
 
@@ -17,10 +18,15 @@ shared-slice-read-value c = search needs
 add-t9 : tie.Need-add-t9
 add-t9 c = search needs
 
--- the value is the one that the definition picks
-value-of : (c : tie.Joined1) → let a = c .before .before .args in c .if1 .value ≡ peakValue (a .run) (a .part .now) (a .after)
+-- the value is that of the byte before, read or brought along
+value-of : (c : tie.Joined1) → let a = c .before .before .args in c .if1 .value ≡ getD (a .part .now) (a .after - 1) 0
 value-of c =
-    ⊎-elim (λ moved. rw (lt-ltb _ _ (moved .0 .taken)) (moved .2)) (λ kept. rw (le-ltb _ _ (kept .0 .left)) (kept .1))
+    let start = c .before .before in
+    let a = start .args in
+    ⊎-elim (λ moved. moved .2)
+    (λ kept.
+    let same : a .run .at ≡ a .after = omega (arith, kept .0 .left, start .pre .1 .1 .0) in
+    kept .1 ∙ (start .pre .1 .0 .value ∙ ap (λ x. getD (a .part .now) (x - 1) 0) same))
     (c .if1 .came)
 
 returns : tie.Need-returns

@@ -9,7 +9,7 @@ use Rattle.scan.specs.Scan.{firstChunk}
 use Rattle.scan.specs.internal.Run.{rest, Begun}
 use Rattle.scan.proofs.laws.Soundness.{fresh-sound}
 use Rattle.scan.proofs.laws.run.Underway.{Underway, deadline-small}
-use Rattle.block_scan.proofs.laws.windows.Peaks.{settled-value, settled-under, settled-cuts}
+use Rattle.block_scan.proofs.laws.windows.Peaks.{settled-byte, first-largest, settled-under, settled-cuts}
 use Rattle.block_scan.proofs.laws.PartEnds.{uncut-whole}
 use Rattle.block_scan.proofs.first_chunk.Statement.{statement}
 use Rattle.block_scan.proofs.first_chunk.Tie as tie
@@ -61,14 +61,11 @@ returns-2 c =
     ∙ ap firstChunk (begins begun .gives)
 
 -- the byte at which it has settled is the chunk's largest so far
-settled-byte : (c : tie.After-settled) → let job = c .before .before .before .before .before .before .args .job .now in
+settled-largest : (c : tie.After-settled) → let job = c .before .before .before .before .before .before .args .job .now in
     c .settled .ensures .value ≡ getD job (c .settled .result - 1) 0
-settled-byte c =
-    let start = begins (c .before .before .before) .fresh refl in
-    let job = c .before .before .before .before .before .before .args .job .now in
-    let s = c .settled .ensures in
-    settled-value s (getD job (c .settled .result - 1) 0) (λ _. refl)
-    (λ here. ap (λ x. getD job x 0) (omega (arith, here, start .at, s .reached .on)) ∙ sym (start .value))
+settled-largest c =
+    let begun = c .before .before .before in
+    settled-byte (begun .begun .result) (first-largest _ _ (begins begun .fresh refl)) (c .settled .ensures)
 
 cast-t12 : tie.Need-cast-t12
 cast-t12 c = omega (arith, deadline-small (settles (c .before .before) .order))
@@ -89,7 +86,7 @@ returns-3 c =
     let w = begun .begun .result .window in
     let after = settled .settled .result in
     let place : begun .begun .result .base + (after + w) - w ≡ after = omega (arith, b .fresh refl .base) in
-    let cuts = settled-cuts (settled .settled .ensures) (b .going) (b .fresh refl .whole) _ (settled-byte settled) (after + w) refl (omega arith) in
+    let cuts = settled-cuts (settled .settled .ensures) (b .going) (b .fresh refl .whole) _ (settled-largest settled) (after + w) refl (omega arith) in
     ap firstChunk (rw place at cuts ∙ b .gives)
 
 pub first-chunk-spec : {M : Type 1} → statement M

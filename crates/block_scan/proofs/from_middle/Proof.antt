@@ -42,7 +42,7 @@ by-windows-requires c κs =
     let larger = c .before .before .before .before in
     let advanced = larger .to-larger .ensures in
     let going = further (c .before .before) .going in
-    (going, (advanced .whole (going .live) (omega (arith, going .index)), omega (arith, advanced .window)))
+    (going, (advanced .largest (going .live) (omega (arith, going .index)), omega (arith, advanced .window)))
 
 returns-3 : tie.Need-returns-3
 returns-3 c = c .by-windows .ensures ∙ further (c .before .before .before) .gives

@@ -2,7 +2,7 @@
 use Prim.Native.Nat.{ℕ, _+_, min, _≤_, _<_}
 use native.Mathlib.Omega.{arith}
 use native.Mathlib.Decide.{decLt}
-use mathlib.Core.Path.{_≡_, refl}
+use mathlib.Core.Path.{_≡_, refl, ap}
 use mathlib.Core.List.{List}
 use lib.ListN.{length, getD}
 use Rattle.blocks.specs.internal.Largest.{AtMost}
@@ -77,7 +77,7 @@ module _ {r next : Run} {part : List ℕ} {stop : ℕ} (p : Passing r next part 
           cut = λ e. absurd (omega (arith, p .window, going .low));
           uncut = λ _.
               record { window = p .window; going = rw (p .window, p .base) (u .order); gives = rw (p .window, p .base) (u .gives) };
-          whole = λ _ _. refl;
+          largest = λ _ _. record { some = omega arith; value = ap (λ x. getD part x 0) (omega arith); whole = refl };
         }
 
     -- no byte was larger up to the deadline or the part's end
@@ -99,5 +99,5 @@ module _ {r next : Run} {part : List ℕ} {stop : ℕ} (p : Passing r next part 
                 going = rw (p .window, p .base, p .deadline, p .value) (u .order);
                 gives = rw (p .window, p .base, p .deadline, p .value) (u .gives);
               };
-          whole = λ early inside. absurd (omega (arith, p .deadline, p .bound));
+          largest = λ early inside. absurd (omega (arith, p .deadline, p .bound));
         }

@@ -3,6 +3,7 @@ use native.Mathlib.Omega.{arith}
 use mathlib.Core.Path.{_∙_}
 use borrow.Author.Needs.{needs}
 use Rattle.scan.proofs.laws.run.Scanning.{stays}
+use Rattle.block_scan.proofs.laws.windows.Peaks.{first-largest}
 use Rattle.block_scan.proofs.scan.Statement.{statement}
 use Rattle.block_scan.proofs.scan.Tie as tie
 
@@ -26,7 +27,7 @@ returns-2 c =
 by-windows-requires : tie.Need-by-windows-requires
 by-windows-requires c κs =
     let begun = c .before .before .before .before .begun .ensures in
-    (begun .going, (begun .fresh (c .if3 .taken) .whole, omega arith))
+    (begun .going, (first-largest _ _ (begun .fresh (c .if3 .taken)), omega arith))
 
 returns-3 : tie.Need-returns-3
 returns-3 c = c .by-windows .ensures ∙ c .before .before .before .before .before .begun .ensures .gives

@@ -7,8 +7,9 @@ use Rattle.scan.specs.declared.run.Run.{Run}
 use Rattle.scan.specs.Limits.{chunkLimit}
 use Rattle.scan.specs.Scan.{cutAfter}
 use Rattle.scan.specs.internal.Run.{rest, Further}
+use Rattle.block_scan.specs.internal.Peaks.{AtLargest}
 
--- a run further on in the part, or at the end of the chunk; inside the part it has a whole window to come
+-- a run further on in the part, or at the end of the chunk; inside the part it is past its largest byte
 pub record Advanced (r next : Run) (part : List ℕ) : Type 0 where
   pub window : next .window ≡ r .window
   pub bound : next .at ≤ next .deadline
@@ -17,7 +18,7 @@ pub record Advanced (r next : Run) (part : List ℕ) : Type 0 where
   pub cut : next .at ≡ next .deadline
       → cutAfter (next .window) (next .deadline) (next .base + next .deadline - next .window) (next .value) ≡ rest r part
   pub uncut : next .at < next .deadline → Further r next part
-  pub whole : next .at < next .deadline → next .at < length part → next .deadline ≡ next .at + next .window
+  pub largest : next .at < next .deadline → next .at < length part → AtLargest next part
 
 -- a run at the end of the part
 pub record Ended (r next : Run) (part : List ℕ) : Type 0 where

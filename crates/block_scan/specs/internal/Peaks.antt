@@ -1,9 +1,7 @@
 -- How far a scan in steps of a whole window has come: from one byte that is the largest so far to another.
 use Prim.Native.Nat.{ℕ, _+_, _-_, _≤_, _<_}
 use mathlib.Core.Path.{_≡_}
-use mathlib.Core.Bool.{cond}
 use mathlib.Core.List.{List}
-use lib.Dec.{ltb}
 use lib.ListN.{length, getD}
 use Rattle.blocks.specs.internal.Largest.{AtMost}
 use Rattle.scan.specs.declared.run.Run.{Run}
@@ -30,11 +28,13 @@ pub record Settled (part : List ℕ) (w i v j : ℕ) : Type 0 where
   pub reached : Reached part w i v j value
   pub ends : j + w ≤ length part → AtMost part j (j + w) value
 
--- the largest byte so far of a run that has come to index j: the byte before it, or the one that the run came with
-abbrev pub peakValue : Run → List ℕ → ℕ → ℕ
-peakValue r part j = cond (ltb (r .at) j) (getD part (j - 1) 0) (r .value)
+-- a run past a byte that is its largest so far, with a whole window to come
+pub record AtLargest (r : Run) (part : List ℕ) : Type 0 where
+  pub some : 1 ≤ r .at
+  pub value : r .value ≡ getD part (r .at - 1) 0
+  pub whole : r .deadline ≡ r .at + r .window
 
--- the run there
+-- the run once it has come to index j, past its largest byte so far
 unfoldable pub atPeak : Run → List ℕ → ℕ → Run
 atPeak r part j =
-    record { window = r .window; base = r .base; deadline = j + r .window; value = peakValue r part j; at = j }
+    record { window = r .window; base = r .base; deadline = j + r .window; value = getD part (j - 1) 0; at = j }

@@ -10,9 +10,10 @@ use Rattle.blocks.specs.declared.Peak.{Peak}
 use Rattle.blocks.specs.internal.Largest.{Exceeded, AtMost, FirstLargest}
 use Rattle.blocks.proofs.laws.Largest.{at-one}
 use Rattle.scan.specs.Scan.{cutAfter}
-use Rattle.scan.specs.internal.Run.{InOrder, onward}
+use Rattle.scan.specs.declared.run.Run.{Run}
+use Rattle.scan.specs.internal.Run.{InOrder, onward, PastFirst}
 use Rattle.scan.proofs.laws.run.Underway.{Underway, rises-to, cuts-to}
-use Rattle.block_scan.specs.internal.Peaks.{Reached, Settled}
+use Rattle.block_scan.specs.internal.Peaks.{Reached, Settled, AtLargest}
 
 -- a scan that stays
 pub reached-none : (part : List ℕ) (w i v : ℕ) → i ≤ length part → Reached part w i v i v
@@ -96,14 +97,25 @@ module _ {part : List ℕ} {w i v : ℕ} where
   pub stops-short : {j u : ℕ} → Reached part w i v j u → length part < j + w → Settled part w i v j
   stops-short {j} {u} reached late = record { value = u; reached = reached; ends = λ inside. absurd (omega arith) }
 
--- the largest byte so far is the one before index j, or stayed
-pub settled-value : {part : List ℕ} {w i v j : ℕ} (s : Settled part w i v j) (u : ℕ) → (i < j → u ≡ getD part (j - 1) 0)
-    → ((i < j → ⊥) → u ≡ v) → s .value ≡ u
-settled-value {i} {j} s u moved kept =
-    elim (decLt i j) [
-      | yes c ↦ s .reached .moved c ∙ sym (moved c)
-      | no c ↦ s .reached .kept (omega (arith, s .reached .on)) ∙ sym (kept c)
+-- from past its largest byte so far it comes past its largest byte so far
+pub settled-byte : {part : List ℕ} {w j : ℕ} (r : Run) → AtLargest r part → (s : Settled part w (r .at) (r .value) j)
+    → s .value ≡ getD part (j - 1) 0
+settled-byte {part} {j} r largest s =
+    elim (decLt (r .at) j) [
+      | yes c ↦ s .reached .moved c
+      | no c ↦
+          let same : j ≡ r .at = omega (arith, s .reached .on) in
+          s .reached .kept same ∙ (largest .value ∙ ap (λ x. getD part (x - 1) 0) (sym same))
     ]
+
+-- a run past its first byte is past its largest byte so far
+pub first-largest : (r : Run) (part : List ℕ) → PastFirst r part → AtLargest r part
+first-largest r part first =
+    record {
+      some = omega (arith, first .at);
+      value = first .value ∙ ap (λ x. getD part x 0) (omega (arith, first .at));
+      whole = first .whole;
+    }
 
 -- a scan with a whole window to come, which has settled with u as the largest byte so far
 module _ {part : List ℕ} {w base d v i j : ℕ} (s : Settled part w i v j) (o : InOrder part w base d v i) (whole : d ≡ i + w)

@@ -13,14 +13,23 @@ use Rattle.hirunvel.proofs.scanning.feed_general.Tie as tie
 array-read-if1 : tie.Need-array-read-if1
 array-read-if1 c = search needs
 
-array-read-value-over-255 : tie.Need-array-read-value-over-255
-array-read-value-over-255 c = search needs
-
-value-over-255-requires : tie.Need-value-over-255-requires
-value-over-255-requires c κs = search needs
+feed-start-requires : tie.Need-feed-start-requires
+feed-start-requires c κs = search needs
 
 returns : tie.Need-returns
-returns c = rw (fed-over _ (c .before .before .if1 .taken) _, c .value-over-255 .ensures)
+returns c = c .feed-start .ensures
+
+array-read-if2 : tie.Need-array-read-if2
+array-read-if2 c = search needs
+
+array-read-unsound : tie.Need-array-read-unsound
+array-read-unsound c = search needs
+
+unsound-requires : tie.Need-unsound-requires
+unsound-requires c κs = search needs
+
+returns-2 : tie.Need-returns-2
+returns-2 c = rw (fed-over _ (c .before .before .if2 .taken) _, c .unsound .ensures)
 
 scanner-of-requires : tie.Need-scanner-of-requires
 scanner-of-requires c κs = search needs
@@ -40,32 +49,35 @@ of-scanner-requires c κs = search needs
 of-refusal-requires : tie.Need-of-refusal-requires
 of-refusal-requires c κs = search needs
 
-returns-2 : tie.Need-returns-2
-returns-2 c =
+returns-3 : tie.Need-returns-3
+returns-3 c =
     let joined = c .before in
     let tested = joined .before in
     let feed = tested .before .before in
-    let a = feed .before .before .before .before .before .args in
+    let a = feed .before .before .before .before .before .before .args in
     let f = feed .feed .result in
     let answered = feed .feed .ensures ∙ ap (λ s. fed s (a .part .now)) (feed .before .scanner-of .ensures) in
-    let scanner : joined .if2 .scanner ≡ cond (accepted (f .refusal)) (numbersOf (f .scanner)) (a .scanner .now) =
+    let scanner : joined .if3 .scanner ≡ cond (accepted (f .refusal)) (numbersOf (f .scanner)) (a .scanner .now) =
     ⊎-elim (λ moved. rw (sym (tested .accepted .ensures) ∙ moved .0 .taken) (moved .2 ∙ moved .1 .ensures))
     (λ kept. rw (sym (tested .accepted .ensures) ∙ kept .0 .left) (kept .1))
-    (joined .if2 .came) in
-    rw (fed-after (a .scanner .now) (feed .before .before .if1 .left) (a .part .now) f answered, c .of-refusal .ensures, scanner, tested .before .of-fed .ensures)
+    (joined .if3 .came) in
+    rw (fed-after (a .scanner .now) (feed .before .before .if2 .left) (a .part .now) f answered, c .of-refusal .ensures, scanner, tested .before .of-fed .ensures)
 
 pub feed-general-spec : {M : Type 1} → statement M
 feed-general-spec =
     tie.close
     (tie.spec
     array-read-if1
-    array-read-value-over-255
-    value-over-255-requires
+    feed-start-requires
     returns
+    array-read-if2
+    array-read-unsound
+    unsound-requires
+    returns-2
     scanner-of-requires
     feed-requires
     of-fed-requires
     accepted-requires
     of-scanner-requires
     of-refusal-requires
-    returns-2)
+    returns-3)

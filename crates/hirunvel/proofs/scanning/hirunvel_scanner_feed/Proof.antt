@@ -1,12 +1,16 @@
 -- `hirunvel::scanning::hirunvel_scanner_feed` meets its contract.
-use mathlib.Core.Path.{_≡_, sym, ap, _∙_}
-use mathlib.Core.Logic.{⊎-elim}
+use Prim.Native.Nat.{_≤_, _<_}
+use native.Mathlib.Omega.{arith}
+use mathlib.Core.Path.{sym, ap, _∙_}
+use lib.ListN.{length, getD}
 use borrow.Author.Needs.{needs}
-use borrow.Author.Tests.{not-false}
+use borrow.Author.Tests.{not-false, leb-false, eqb-false}
+use Rattle.scan.specs.Limits.{windowLimit}
+use Rattle.scan.proofs.laws.Soundness.{fresh-sound}
 use Rattle.chunker.proofs.laws.NextChunk.{rest-whole}
-use Rattle.numbers.specs.Scanning.{numbersOf}
+use Rattle.chunker.proofs.laws.ground.Soundness.{sound-ground, fed-accepted}
 use Rattle.hirunvel.specs.Scanning.{scannerFed}
-use Rattle.hirunvel.proofs.laws.scanning.Answers.{fed-starts, cut-keeps}
+use Rattle.hirunvel.proofs.laws.scanning.Answers.{fed-starts}
 use Rattle.hirunvel.proofs.scanning.hirunvel_scanner_feed.Statement.{statement}
 use Rattle.hirunvel.proofs.scanning.hirunvel_scanner_feed.Tie as tie
 
@@ -53,33 +57,35 @@ returns-2 c =
     let a = c .before .before .before .before .before .before .before .before .before .before .before .args in
     c .feed-general2 .ensures ∙ ap (scannerFed (a .scanner .now)) (rest-whole (a .part .now) 0)
 
-array-read-feed-fresh : tie.Need-array-read-feed-fresh
-array-read-feed-fresh c = search needs
+array-read-from-start : tie.Need-array-read-from-start
+array-read-from-start c = search needs
 
-feed-fresh-requires : tie.Need-feed-fresh-requires
-feed-fresh-requires c κs = search needs
+-- the window is small, and so allowed; the part is not empty
+small : (c : tie.Else3) → let a = c .before .before .before .before .before .args in let w = getD (a .scanner .now) 0 0 in
+    (1 ≤ w) × ((w ≤ windowLimit) × (1 ≤ length (a .part .now)))
+small c =
+    let a = c .before .before .before .before .before .args in
+    let w = getD (a .scanner .now) 0 0 in
+    let below : w < 8 = leb-false 8 w (c .before .if2 .left) in
+    let some = eqb-false (length (a .part .now)) 0 (c .if3 .left) in
+    (omega (arith, c .before .before .if1 .left), (omega (arith, below), omega (arith, some)))
 
-of-fed-requires : tie.Need-of-fed-requires
-of-fed-requires c κs = search needs
+from-start-requires : tie.Need-from-start-requires
+from-start-requires c κs = small (c .before .before)
 
-of-scanner-requires : tie.Need-of-scanner-requires
-of-scanner-requires c κs = search needs
-
-of-refusal-requires : tie.Need-of-refusal-requires
-of-refusal-requires c κs = search needs
+hand-over-requires : tie.Need-hand-over-requires
+hand-over-requires c κs = search needs
 
 returns-3 : tie.Need-returns-3
 returns-3 c =
-    let joined = c .before in
-    let told = joined .before .before in
-    let feed = told .before in
-    let a = feed .before .before .before .before .before .before .before .before .args in
-    let start = feed .before .before .untouched .ensures (not-false _ (feed .before .if4 .left)) in
-    let scanner : joined .if5 .scanner ≡ numbersOf (feed .feed-fresh .result .scanner) =
-    ⊎-elim (λ moved. moved .2 ∙ moved .1 .ensures)
-    (λ kept. kept .1 ∙ sym (cut-keeps (a .scanner .now) start (a .part .now) _ (feed .feed-fresh .ensures) (not-false _ (kept .0 .left))))
-    (joined .if5 .came) in
-    rw (fed-starts (a .scanner .now) start (a .part .now) _ (feed .feed-fresh .ensures), c .of-refusal .ensures, scanner, told .of-fed .ensures)
+    let feed = c .before .before .before in
+    let tested = feed .before .before in
+    let a = tested .before .before .before .before .before .before .args in
+    let b = small (tested .before) in
+    let start = tested .untouched .ensures .1 (not-false _ (feed .before .if4 .left)) in
+    let accepted = sound-ground _ (fresh-sound _ (b .0) (b .1 .0)) in
+    let answered = feed .from-start .ensures ∙ sym (fed-accepted _ (a .part .now) accepted) in
+    c .hand-over .ensures ∙ sym (fed-starts (a .scanner .now) start (a .part .now) _ answered)
 
 pub hirunvel-scanner-feed-spec : {M : Type 1} → statement M
 hirunvel-scanner-feed-spec =
@@ -98,9 +104,7 @@ hirunvel-scanner-feed-spec =
     part-feed-general-end-2
     feed-general-requires-2
     returns-2
-    array-read-feed-fresh
-    feed-fresh-requires
-    of-fed-requires
-    of-scanner-requires
-    of-refusal-requires
+    array-read-from-start
+    from-start-requires
+    hand-over-requires
     returns-3)

@@ -13,14 +13,14 @@ use Rattle.hirunvel.proofs.scanning.hirunvel_scanner_finish.Tie as tie
 array-read-if1 : tie.Need-array-read-if1
 array-read-if1 c = search needs
 
-array-read-value-over-255 : tie.Need-array-read-value-over-255
-array-read-value-over-255 c = search needs
+array-read-unsound : tie.Need-array-read-unsound
+array-read-unsound c = search needs
 
-value-over-255-requires : tie.Need-value-over-255-requires
-value-over-255-requires c κs = search needs
+unsound-requires : tie.Need-unsound-requires
+unsound-requires c κs = search needs
 
 returns : tie.Need-returns
-returns c = rw (finished-over _ (c .before .if1 .taken), c .value-over-255 .ensures)
+returns c = rw (finished-over _ (c .before .if1 .taken), c .unsound .ensures)
 
 scanner-of-requires : tie.Need-scanner-of-requires
 scanner-of-requires c κs = search needs
@@ -59,8 +59,8 @@ hirunvel-scanner-finish-spec =
     tie.close
     (tie.spec
     array-read-if1
-    array-read-value-over-255
-    value-over-255-requires
+    array-read-unsound
+    unsound-requires
     returns
     scanner-of-requires
     finish-requires

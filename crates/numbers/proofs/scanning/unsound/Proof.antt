@@ -1,8 +1,8 @@
--- `numbers::scanning::value_over_255` meets its contract.
+-- `numbers::scanning::unsound` meets its contract.
 use mathlib.Core.Path.{sym, _∙_}
 use borrow.Author.Needs.{needs}
-use Rattle.numbers.proofs.scanning.value_over_255.Statement.{statement}
-use Rattle.numbers.proofs.scanning.value_over_255.Tie as tie
+use Rattle.numbers.proofs.scanning.unsound.Statement.{statement}
+use Rattle.numbers.proofs.scanning.unsound.Tie as tie
 
 window-allowed-requires : tie.Need-window-allowed-requires
 window-allowed-requires c κs = search needs
@@ -19,6 +19,6 @@ of-refusal-requires-2 c κs = search needs
 returns-2 : tie.Need-returns-2
 returns-2 c = rw (sym (c .before .before .window-allowed .ensures) ∙ c .before .if1 .left) (c .of-refusal2 .ensures)
 
-pub value-over-255-spec : {M : Type 1} → statement M
-value-over-255-spec =
+pub unsound-spec : {M : Type 1} → statement M
+unsound-spec =
     tie.close (tie.spec window-allowed-requires of-refusal-requires returns of-refusal-requires-2 returns-2)
