@@ -1,21 +1,19 @@
 # Each target does all of its own set-up.
 export RT_JOBS ?= 2
 
-.PHONY: help test list job example peaks spans bench
+.PHONY: help test list job example peaks bench
 .NOTPARALLEL:
 .DELETE_ON_ERROR:
 
 help:
 	@echo "make help            this list"
 	@echo "make test            all proofs from scratch, the must-fail edits and all other tests"
-	@echo "                     (about 30 minutes on two cores)"
+	@echo "                     (about 20 minutes on two cores)"
 	@echo "make list JOB=FILE   the frames of a job"
 	@echo "                     (about 2 minutes the first time, to prove and build the program; then at once)"
 	@echo "make example         a label and its revision, quoted, taken and rebuilt from C"
 	@echo "                     (about 2 minutes the first time, to prove and build the library; then at once)"
 	@echo "make peaks JOB=FILE  the chunks and cuts of a job with windows from 1 to 64, to choose one by"
-	@echo "                     (about 2 minutes the first time, to prove and build the library; then at once)"
-	@echo "make spans           a label printed through a buffer of 64 bytes while another is taken"
 	@echo "                     (about 2 minutes the first time, to prove and build the library; then at once)"
 	@echo "make bench           the library measured beside plain Rust, a HashMap and, where its archives are there,"
 	@echo "                     the version before (bench/before.rs says how to make that)"
@@ -42,12 +40,6 @@ peaks: job target/staticlib/libhirunvel.a
 	@mkdir -p target/example
 	@cc -std=c99 -Iinclude -o target/example/peaks examples/peaks.c -Ltarget/staticlib -lhirunvel
 	@target/example/peaks <"$$JOB"
-
-# Prints a label in spans, from C, and takes another one between two of them.
-spans: target/staticlib/libhirunvel.a
-	@mkdir -p target/example
-	@cc -std=c99 -Iinclude -o target/example/spans examples/spans.c -Ltarget/staticlib -lhirunvel
-	@target/example/spans docs/example/label.zpl docs/example/label-2.zpl
 
 # Measures the library beside plain implementations of the same operations, and beside the version before if both of its
 # archives are there. Without position-independent code the calls of the archives are direct, as those of the plain ones

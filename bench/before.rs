@@ -1,6 +1,6 @@
-//! The version before, which gives no spans and whose head has no number of open rebuildings: commit 4ed145f. `make bench`
-//! looks for its two archives, in which each name begins with `before_`, and measures without them unless both are there.
-//! To make them, check out that commit in another folder, FOLDER, and then here:
+//! The version before, which tells no maximum points: commit 1e26cdc. `make bench` looks for its two archives, in which
+//! each name begins with `before_`, and measures without them unless both are there. To make them, check out that commit
+//! in another folder, FOLDER, and then here:
 //!
 //!     make -C FOLDER target/staticlib/libhirunvel.a target/staticlib/libchunk_count.a
 //!     mkdir -p target/bench/before
@@ -20,7 +20,7 @@ unsafe extern "C" {
         scanner: *mut [u32; 4],
         part: *const u8,
         part_len: usize,
-        fed: *mut [u64; 4],
+        fed: *mut [u64; 2],
     ) -> u32;
     fn before_hirunvel_store_quote(
         head: *const [u32; 3],
@@ -34,7 +34,7 @@ unsafe extern "C" {
         recipe_len: usize,
         job: *const u8,
         job_len: usize,
-        counts: *mut [u64; 6],
+        counts: *mut [u64; 3],
         saving: *mut [i64; 1],
     ) -> u32;
     fn before_hirunvel_store_take(
@@ -49,29 +49,8 @@ unsafe extern "C" {
         recipe_len: usize,
         job: *const u8,
         job_len: usize,
-        counts: *mut [u64; 6],
+        counts: *mut [u64; 3],
         saving: *mut [i64; 1],
-    ) -> u32;
-    fn before_hirunvel_store_look(
-        head: *const [u32; 3],
-        pool: *const u8,
-        pool_len: usize,
-        directory: *const u32,
-        directory_len: usize,
-        number: u32,
-        stretch: *mut [u64; 2],
-    ) -> u32;
-    fn before_hirunvel_rebuild(
-        head: *const [u32; 3],
-        pool: *const u8,
-        pool_len: usize,
-        directory: *const u32,
-        directory_len: usize,
-        recipe: *const u32,
-        recipe_len: usize,
-        output: *mut u8,
-        output_len: usize,
-        written: *mut [u64; 1],
     ) -> u32;
 }
 
@@ -86,9 +65,9 @@ pub fn chunk_count(window: u32, job: &[u8]) -> u64 {
     unsafe { before_hirunvel_chunk_count(window, job.as_ptr(), job.len()) }
 }
 
-/// Moves a scanner on over a part.
+/// Moves a scanner on over a part. `fed` keeps its place and value.
 pub fn feed(scanner: &mut Scanner, part: &[u8], fed: &mut Fed) -> u32 {
-    // SAFETY: as for the library's feed.
+    // SAFETY: as for the library's feed; the first two numbers of `Fed` are written.
     unsafe {
         before_hirunvel_scanner_feed(
             ptr::from_mut(scanner).cast(),
@@ -99,7 +78,7 @@ pub fn feed(scanner: &mut Scanner, part: &[u8], fed: &mut Fed) -> u32 {
     }
 }
 
-/// Quotes a job.
+/// Quotes a job. The answer keeps its counts of cuts.
 pub fn quote(
     head: &Head,
     pool: &[u8],
@@ -109,7 +88,7 @@ pub fn quote(
     job: &[u8],
     answer: &mut Answer,
 ) -> u32 {
-    // SAFETY: as for the library's quote, with a head of the first three numbers.
+    // SAFETY: as for the library's quote; the first three counts are written.
     unsafe {
         before_hirunvel_store_quote(
             ptr::from_ref(head).cast(),
@@ -123,13 +102,13 @@ pub fn quote(
             recipe.len(),
             job.as_ptr(),
             job.len(),
-            &mut answer.counts,
+            ptr::from_mut(&mut answer.counts).cast(),
             array::from_mut(&mut answer.saving),
         )
     }
 }
 
-/// Takes a job. The head keeps its number of open rebuildings.
+/// Takes a job. The answer keeps its counts of cuts.
 pub fn take(
     head: &mut Head,
     pool: &mut [u8],
@@ -139,7 +118,7 @@ pub fn take(
     job: &[u8],
     answer: &mut Answer,
 ) -> u32 {
-    // SAFETY: as for the library's take, with a head of the first three numbers.
+    // SAFETY: as for the library's take; the first three counts are written.
     unsafe {
         before_hirunvel_store_take(
             ptr::from_mut(head).cast(),
@@ -153,56 +132,8 @@ pub fn take(
             recipe.len(),
             job.as_ptr(),
             job.len(),
-            &mut answer.counts,
+            ptr::from_mut(&mut answer.counts).cast(),
             array::from_mut(&mut answer.saving),
-        )
-    }
-}
-
-/// Finds a chunk's stretch of the pool.
-pub fn look(
-    head: &Head,
-    pool: &[u8],
-    directory: &[u32],
-    number: u32,
-    stretch: &mut [u64; 2],
-) -> u32 {
-    // SAFETY: as for the library's look, with a head of the first three numbers.
-    unsafe {
-        before_hirunvel_store_look(
-            ptr::from_ref(head).cast(),
-            pool.as_ptr(),
-            pool.len(),
-            directory.as_ptr(),
-            directory.len(),
-            number,
-            stretch,
-        )
-    }
-}
-
-/// Writes the chunks that a recipe names to the output.
-pub fn rebuild(
-    head: &Head,
-    pool: &[u8],
-    directory: &[u32],
-    recipe: &[u32],
-    output: &mut [u8],
-    written: &mut u64,
-) -> u32 {
-    // SAFETY: as for the library's rebuilding, with a head of the first three numbers.
-    unsafe {
-        before_hirunvel_rebuild(
-            ptr::from_ref(head).cast(),
-            pool.as_ptr(),
-            pool.len(),
-            directory.as_ptr(),
-            directory.len(),
-            recipe.as_ptr(),
-            recipe.len(),
-            output.as_mut_ptr(),
-            output.len(),
-            array::from_mut(written),
         )
     }
 }

@@ -1,11 +1,11 @@
-//! The comparison of quotes, takes, looks and rebuildings, at once and in spans.
+//! The comparison of quotes, takes, looks and rebuildings.
 
 use crate::agreement::{agree, Sequence};
 #[cfg(before)]
 use crate::before;
 use crate::interface::{
-    Answer, Head, Held, ACCEPTED, CHAINS, DIRECTORY_LIMIT, JOB_LIMIT, OPEN_LIMIT, POOL_LIMIT,
-    RECIPE_LIMIT, WINDOW_LIMIT,
+    Answer, Head, ACCEPTED, CHAINS, DIRECTORY_LIMIT, JOB_LIMIT, POOL_LIMIT, RECIPE_LIMIT,
+    WINDOW_LIMIT,
 };
 use crate::plain::index::{chain_of, END};
 use crate::plain::store::head_refused;
@@ -19,52 +19,29 @@ type Quote = fn(&Head, &[u8], &[u32], &[u32], &mut [u32], &[u8], &mut Answer) ->
 type Take = fn(&mut Head, &mut [u8], &mut [u32], &mut [u32], &mut [u32], &[u8], &mut Answer) -> u32;
 type Look = fn(&Head, &[u8], &[u32], u32, &mut [u64; 2]) -> u32;
 type Rebuild = fn(&Head, &[u8], &[u32], &[u32], &mut [u8], &mut u64) -> u32;
-type Open = fn(&mut Head, &[u8], &[u32], &[u32], &mut Held) -> u32;
-type Span = fn(&Head, &[u8], &[u32], &[u32], &mut Held, &mut [u8], &mut u64) -> u32;
-type Close = fn(&mut Head, &[u8], &[u32]) -> u32;
 
-const QUOTES: &[(&str, Quote)] = &[
+const QUOTES: [(&str, Quote); 2] = [
     ("library", library::quote),
     ("plain Rust", plain::store::quote),
-    #[cfg(before)]
-    (before::NAME, before::quote),
 ];
-const TAKES: &[(&str, Take)] = &[
+const TAKES: [(&str, Take); 2] = [
     ("library", library::take),
     ("plain Rust", plain::store::take),
-    #[cfg(before)]
-    (before::NAME, before::take),
 ];
-const LOOKS: &[(&str, Look)] = &[
+const LOOKS: [(&str, Look); 2] = [
     ("library", library::look),
     ("plain Rust", plain::store::look),
-    #[cfg(before)]
-    (before::NAME, before::look),
 ];
-const REBUILDINGS: &[(&str, Rebuild)] = &[
+const REBUILDINGS: [(&str, Rebuild); 2] = [
     ("library", library::rebuild),
     ("plain Rust", plain::rebuild::rebuild),
-    #[cfg(before)]
-    (before::NAME, before::rebuild),
-];
-const OPENINGS: [(&str, Open); 2] = [
-    ("library", library::rebuild_open),
-    ("plain Rust", plain::spans::open),
-];
-const SPANS: [(&str, Span); 2] = [
-    ("library", library::rebuild_span),
-    ("plain Rust", plain::spans::span),
-];
-const CLOSINGS: [(&str, Close); 2] = [
-    ("library", library::rebuild_close),
-    ("plain Rust", plain::spans::close),
 ];
 
 const STORES: usize = 50_000;
 const JOBS: usize = 3;
 
-/// Compares all of them over small stores of any contents, and over memory at its limits, in which every ground of a store
-/// holds.
+/// Compares quotes, takes, looks and rebuildings over small stores of any contents, and over memory at its limits, in which
+/// every ground of a store holds.
 pub fn compare_small_stores() {
     let mut sequence = Sequence(0x9e37_79b9_7f4a_7c15);
     for _ in 0..STORES {
@@ -76,12 +53,9 @@ pub fn compare_small_stores() {
             store = any_index(&mut sequence, store);
             hold_twice(&mut sequence, &mut store);
         }
-        recipe.truncate(sequence.below(recipe.len() as u64 + 1) as usize);
+        let used = sequence.below(recipe.len() as u64 + 1) as usize;
         compare_looks(&store, sequence.below(8) as u32);
-        compare_rebuildings(&store, &recipe, sequence.below(80) as usize);
-        compare_openings(&store, &recipe);
-        let held = any_held(&mut sequence, recipe.len());
-        compare_spans(&store, &recipe, held, sequence.below(20) as usize);
+        compare_rebuildings(&store, &recipe[..used], sequence.below(80) as usize);
     }
     compare_at_limits();
 }
@@ -93,19 +67,10 @@ fn any_numbers(sequence: &mut Sequence, bound: u64) -> Vec<u32> {
         .collect()
 }
 
-/// A held place in a recipe of some length or past its end, mostly at the start of a chunk or near it.
-fn any_held(sequence: &mut Sequence, length: usize) -> Held {
-    Held {
-        place: sequence.below(length as u64 + 2) as u32,
-        offset: sequence.one_of(&[0, 0, 0, 1, 2, 3, 6, u32::MAX]),
-    }
-}
-
-/// A store of any contents, whose head is mostly that of a fresh one, with any number of open rebuildings.
+/// A store of any contents, whose head is mostly that of a fresh one.
 fn any_store(sequence: &mut Sequence) -> Store {
     let window = sequence.one_of(&[0, 1, 1, 1, 2, 2, 3, 16, WINDOW_LIMIT, WINDOW_LIMIT + 1]);
     let mut head = Head::fresh(window);
-    head.open = sequence.one_of(&[0, 1, 2, OPEN_LIMIT - 1, OPEN_LIMIT, u32::MAX]);
     if sequence.below(4) == 0 {
         head.chunks = sequence.below(4) as u32;
         head.filled = sequence.below(8) as u32;
@@ -160,12 +125,18 @@ fn hold_twice(sequence: &mut Sequence, store: &mut Store) {
 pub fn compare_admissions(store: &mut Store, recipe: &mut Vec<u32>, job: &[u8]) -> Answer {
     let Head { window, chunks, .. } = store.head;
     let what = |which| format!("{which} at window {window}, after {chunks} chunks");
-    let quotes = QUOTES.iter();
-    let quotes = quotes.map(|&(name, quote)| (name, run_quote(quote, store, recipe, job)));
-    let (refusal, answer, same, numbers) = agree(|| what("quotes"), quotes);
-    let takes = TAKES.iter();
-    let takes = takes.map(|&(name, take)| (name, run_take(take, store, recipe, job)));
+    let quotes = QUOTES.map(|(name, quote)| (name, run_quote(quote, store, recipe, job)));
+    let quoted = agree(|| what("quotes"), quotes);
+    let takes = TAKES.map(|(name, take)| (name, run_take(take, store, recipe, job)));
     let taken = agree(|| what("takes"), takes);
+    #[cfg(before)]
+    {
+        let before = run_quote(before::quote, store, recipe, job);
+        compare_before(|| what("quotes"), &quoted, before);
+        let before = run_take(before::take, store, recipe, job);
+        compare_before(|| what("takes"), &taken, before);
+    }
+    let (refusal, answer, same, numbers) = quoted;
     let unchanged = [("the store", &*store), ("what a quote leaves", &same)];
     agree(|| what("quote"), unchanged);
     if refusal != ACCEPTED {
@@ -181,16 +152,17 @@ pub fn compare_admissions(store: &mut Store, recipe: &mut Vec<u32>, job: &[u8]) 
     answer
 }
 
+/// Compares what the version before tells and leaves, but for the counts of cuts, which it does not tell.
+#[cfg(before)]
+fn compare_before(what: impl Fn() -> String, now: &Left, mut before: Left) {
+    before.1.counts[3..].copy_from_slice(&now.1.counts[3..]);
+    agree(what, [("library", now), (before::NAME, &before)]);
+}
+
 /// An answer that no call leaves.
 const UNTOLD: Answer = Answer {
     counts: [1; 6],
     saving: 1,
-};
-
-/// A held place that no opening leaves.
-const UNHELD: Held = Held {
-    place: 1,
-    offset: 1,
 };
 
 /// What a quote tells and leaves.
@@ -225,7 +197,7 @@ fn run_take(take: Take, store: &Store, recipe: &[u32], job: &[u8]) -> Left {
 
 /// Compares what the looks at a chunk tell.
 pub fn compare_looks(store: &Store, number: u32) {
-    let results = LOOKS.iter().map(|&(name, look)| {
+    let results = LOOKS.map(|(name, look)| {
         let mut stretch = [1, 1];
         let refusal = look(
             &store.head,
@@ -250,7 +222,7 @@ pub fn compare_rebuildings(store: &Store, recipe: &[u32], length: usize) -> Vec<
         directory,
         ..
     } = store;
-    let results = REBUILDINGS.iter().map(|&(name, rebuild)| {
+    let results = REBUILDINGS.map(|(name, rebuild)| {
         let mut output = vec![0xaa; length];
         let mut written = 1;
         let refusal = rebuild(head, pool, directory, recipe, &mut output, &mut written);
@@ -264,60 +236,6 @@ pub fn compare_rebuildings(store: &Store, recipe: &[u32], length: usize) -> Vec<
         )
     };
     agree(what, results).2
-}
-
-/// Compares what the openings of a rebuilding tell and leave, and then the closings.
-pub fn compare_openings(store: &Store, recipe: &[u32]) {
-    let what = |which| format!("{which} with {} rebuildings open", store.head.open);
-    let Store {
-        pool, directory, ..
-    } = store;
-    let openings = OPENINGS.map(|(name, open)| {
-        let (mut head, mut held) = (store.head, UNHELD);
-        let refusal = open(&mut head, pool, directory, recipe, &mut held);
-        (name, (refusal, head, held))
-    });
-    let (_, opened, _) = agree(|| what("openings"), openings);
-    let closings = CLOSINGS.map(|(name, close)| {
-        let mut head = opened;
-        let refusal = close(&mut head, pool, directory);
-        (name, (refusal, head))
-    });
-    agree(|| what("closings"), closings);
-}
-
-/// Compares what spans tell and leave in an output of some length, each from the place that the one before it leaves, until
-/// one writes nothing. Gives back their bytes.
-pub fn compare_spans(store: &Store, recipe: &[u32], mut held: Held, length: usize) -> Vec<u8> {
-    let Store {
-        head,
-        pool,
-        directory,
-        ..
-    } = store;
-    let what = || format!("span, window {}, {} numbers", head.window, recipe.len());
-    let mut bytes = Vec::new();
-    loop {
-        let results = SPANS.map(|(name, span)| {
-            let (mut held, mut output, mut written) = (held, vec![0xaa; length], 1);
-            let refusal = span(
-                head,
-                pool,
-                directory,
-                recipe,
-                &mut held,
-                &mut output,
-                &mut written,
-            );
-            (name, (refusal, held, written, output))
-        });
-        let (_, next, written, output) = agree(what, results);
-        if written == 0 {
-            return bytes;
-        }
-        bytes.extend_from_slice(&output[..written as usize]);
-        held = next;
-    }
 }
 
 /// Compares memory and jobs at their limits and past them, all of zeros.
@@ -336,10 +254,7 @@ fn compare_at_limits() {
         let mut recipe = vec![0; recipe];
         compare_admissions(&mut store, &mut recipe, &vec![0; job]);
         compare_looks(&store, 0);
-        for recipe in [&recipe[recipe.len() - RECIPE_LIMIT..], &recipe] {
-            compare_rebuildings(&store, recipe, JOB_LIMIT);
-            compare_openings(&store, recipe);
-            compare_spans(&store, recipe, Held::start_of(0), 1);
-        }
+        compare_rebuildings(&store, &recipe[recipe.len() - RECIPE_LIMIT..], JOB_LIMIT);
+        compare_rebuildings(&store, &recipe, JOB_LIMIT);
     }
 }

@@ -13,12 +13,13 @@ use std::time::Duration;
 type Feed = fn(&mut Scanner, &[u8], &mut Fed) -> u32;
 type Count = fn(u32, &[u8]) -> u64;
 
-const FEEDS: &[(&str, Feed)] = &[
+/// What a feed tells, and what it leaves: the refusal, the scanner and what it reports.
+type Left = (u32, Scanner, Fed);
+
+const FEEDS: [(&str, Feed); 3] = [
     ("library", library::feed),
     ("Algorithm 1", chunker::feed_1),
     ("Algorithm 2", chunker::feed_2),
-    #[cfg(before)]
-    (before::NAME, before::feed),
 ];
 const COUNTS: &[(&str, Count)] = &[
     ("library", library::chunk_count),
@@ -106,9 +107,11 @@ fn compare_feeds(case: &Case, mut scanner: Scanner) {
     for part in case.job.chunks(case.size) {
         let mut rest = part;
         while !rest.is_empty() {
-            let feeds = FEEDS.iter();
-            let results = feeds.map(|&(name, feed)| (name, run_feed(feed, scanner, rest)));
-            let (refusal, moved, fed) = agree(what, results);
+            let results = FEEDS.map(|(name, feed)| (name, run_feed(feed, scanner, rest)));
+            let left = agree(what, results);
+            #[cfg(before)]
+            compare_before(what, &left, run_feed(before::feed, scanner, rest));
+            let (refusal, moved, fed) = left;
             if refusal != ACCEPTED {
                 return;
             }
@@ -118,11 +121,19 @@ fn compare_feeds(case: &Case, mut scanner: Scanner) {
     }
 }
 
-/// What a feed tells, and what it leaves: the refusal, the scanner and what it reports.
-fn run_feed(feed: Feed, mut scanner: Scanner, part: &[u8]) -> (u32, Scanner, Fed) {
+/// What a feed tells and leaves.
+fn run_feed(feed: Feed, mut scanner: Scanner, part: &[u8]) -> Left {
     let mut fed = UNTOLD;
     let refusal = feed(&mut scanner, part, &mut fed);
     (refusal, scanner, fed)
+}
+
+/// Compares what the version before tells and leaves, but for the maximum point, which it does not tell.
+#[cfg(before)]
+fn compare_before(what: impl Fn() -> String, now: &Left, mut before: Left) {
+    before.2.place = now.2.place;
+    before.2.value = now.2.value;
+    agree(what, [("library", now), (before::NAME, &before)]);
 }
 
 /// Compares the numbers of chunks of a job.

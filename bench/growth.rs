@@ -1,7 +1,5 @@
 //! How the cost of takes, quotes, rebuilding and looking grows with the job and with the store.
 
-#[cfg(before)]
-use crate::before;
 use crate::comparison::compare_looks;
 use crate::interface::Head;
 use crate::store::{jobs, Store};
@@ -21,11 +19,9 @@ const NEW_WINDOWS: [u32; 2] = [16, WINDOW];
 /// The looks of a turn.
 const LOOKS: u32 = 64;
 
-const LOOKING: &[Contestant<Store>] = &[
+const LOOKING: [Contestant<Store>; 2] = [
     ("library", |store| look_often(library::look, store)),
     ("plain Rust", |store| look_often(plain::store::look, store)),
-    #[cfg(before)]
-    (before::NAME, |store| look_often(before::look, store)),
 ];
 
 /// Compares the results, and measures the operations.
@@ -135,7 +131,7 @@ fn measure_rest(
 ) {
     let contest = Contest {
         title: "Rebuilding as work grows, w = 64",
-        contestants: rebuilding::CONTESTANTS,
+        contestants: &rebuilding::CONTESTANTS,
         undo: |_| (),
         unit: "nanoseconds a byte",
         figure: |case, nanoseconds| nanoseconds / case.bytes() as f64,
@@ -144,7 +140,7 @@ fn measure_rest(
     report.measure(time * 3 / 4, &contest, &axes, &mut rebuildings);
     let contest = Contest {
         title: "Looking",
-        contestants: LOOKING,
+        contestants: &LOOKING,
         undo: |_| (),
         unit: "nanoseconds a look",
         figure: |_, nanoseconds| nanoseconds / f64::from(LOOKS),

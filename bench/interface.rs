@@ -1,9 +1,9 @@
 //! What the library and the plain implementations share: the numbers of `include/hirunvel.h`, and its arrays as structs.
 
 pub use crate::hirunvel::{
-    ACCEPTED, CHAINS, CHUNK_NUMBER, DIRECTORY_FULL, DIRECTORY_LIMIT, HEAD, HELD_PLACE, INDEX,
-    INDEX_LENGTH, JOB_LENGTH, JOB_LIMIT, MEMORY_LIMIT, OPEN_LIMIT, OPEN_REBUILDINGS, OUTPUT_SHORT,
-    POOL_FULL, POOL_LIMIT, RECIPE_FULL, RECIPE_LIMIT, UNSOUND, WINDOW, WINDOW_LIMIT,
+    ACCEPTED, CHAINS, CHUNK_NUMBER, DIRECTORY_FULL, DIRECTORY_LIMIT, HEAD, INDEX, INDEX_LENGTH,
+    JOB_LENGTH, JOB_LIMIT, MEMORY_LIMIT, OUTPUT_SHORT, POOL_FULL, POOL_LIMIT, RECIPE_FULL,
+    RECIPE_LIMIT, UNSOUND, WINDOW, WINDOW_LIMIT,
 };
 
 /// A scanner: the window, the bytes since the last cut, the place of the largest of them, counted from 1 and first on
@@ -40,14 +40,13 @@ pub struct Fed {
     pub value: u64,
 }
 
-/// A store's head: the window, the number of chunks, the pool's bytes in use, and the number of open rebuildings.
+/// A store's head: the window, the number of chunks, and the pool's bytes in use.
 #[repr(C)]
 #[derive(Clone, Copy, PartialEq)]
 pub struct Head {
     pub window: u32,
     pub chunks: u32,
     pub filled: u32,
-    pub open: u32,
 }
 
 impl Head {
@@ -57,24 +56,7 @@ impl Head {
             window,
             chunks: 0,
             filled: 0,
-            open: 0,
         }
-    }
-}
-
-/// Where the next span starts: a place in the recipe, counted from 0, and an offset in its chunk; or the recipe's length
-/// and 0.
-#[repr(C)]
-#[derive(Clone, Copy, PartialEq)]
-pub struct Held {
-    pub place: u32,
-    pub offset: u32,
-}
-
-impl Held {
-    /// The start of the chunk at a place.
-    pub fn start_of(place: u32) -> Self {
-        Self { place, offset: 0 }
     }
 }
 

@@ -2,10 +2,10 @@
 //! that is measured.
 
 use crate::hirunvel::{
-    hirunvel_rebuild, hirunvel_rebuild_close, hirunvel_rebuild_open, hirunvel_rebuild_span,
-    hirunvel_scanner_feed, hirunvel_store_look, hirunvel_store_quote, hirunvel_store_take,
+    hirunvel_rebuild, hirunvel_scanner_feed, hirunvel_store_look, hirunvel_store_quote,
+    hirunvel_store_take,
 };
-use crate::interface::{Answer, Fed, Head, Held, Scanner};
+use crate::interface::{Answer, Fed, Head, Scanner};
 use std::{array, ptr};
 
 #[link(name = "chunk_count", kind = "static")]
@@ -141,74 +141,6 @@ pub fn rebuild(
             output.as_mut_ptr(),
             output.len(),
             array::from_mut(written),
-        )
-    }
-}
-
-/// Opens a rebuilding in spans.
-pub fn rebuild_open(
-    head: &mut Head,
-    pool: &[u8],
-    directory: &[u32],
-    recipe: &[u32],
-    held: &mut Held,
-) -> u32 {
-    // SAFETY: each pointer and its length are those of a slice, which is only read; `Head` and `Held` are laid out as the
-    // header's arrays, and the references to them are exclusive.
-    unsafe {
-        hirunvel_rebuild_open(
-            ptr::from_mut(head).cast(),
-            pool.as_ptr(),
-            pool.len(),
-            directory.as_ptr(),
-            directory.len(),
-            recipe.as_ptr(),
-            recipe.len(),
-            ptr::from_mut(held).cast(),
-        )
-    }
-}
-
-/// Writes a span of a job, from the held place on, to the output.
-pub fn rebuild_span(
-    head: &Head,
-    pool: &[u8],
-    directory: &[u32],
-    recipe: &[u32],
-    held: &mut Held,
-    output: &mut [u8],
-    written: &mut u64,
-) -> u32 {
-    // SAFETY: each pointer and its length are those of a slice, exclusive for the output; `Head` and `Held` are laid out
-    // as the header's arrays, and the references to the held place and to the number of bytes are exclusive.
-    unsafe {
-        hirunvel_rebuild_span(
-            ptr::from_ref(head).cast(),
-            pool.as_ptr(),
-            pool.len(),
-            directory.as_ptr(),
-            directory.len(),
-            recipe.as_ptr(),
-            recipe.len(),
-            ptr::from_mut(held).cast(),
-            output.as_mut_ptr(),
-            output.len(),
-            array::from_mut(written),
-        )
-    }
-}
-
-/// Closes a rebuilding in spans.
-pub fn rebuild_close(head: &mut Head, pool: &[u8], directory: &[u32]) -> u32 {
-    // SAFETY: each pointer and its length are those of a slice, which is only read; `Head` is laid out as the header's
-    // array, and the reference to it is exclusive.
-    unsafe {
-        hirunvel_rebuild_close(
-            ptr::from_mut(head).cast(),
-            pool.as_ptr(),
-            pool.len(),
-            directory.as_ptr(),
-            directory.len(),
         )
     }
 }

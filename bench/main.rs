@@ -16,7 +16,6 @@ mod limits;
 mod link;
 mod plain;
 mod rebuilding;
-mod spans;
 mod sse2;
 mod store;
 mod table;
@@ -57,12 +56,11 @@ type Measure<'a> = Box<dyn FnOnce(Duration) -> Report + 'a>;
 /// A part of the run: its name, what prepares it and compares its contestants' results, and the seconds to measure.
 type Part = (&'static str, fn(&Inputs) -> Measure<'_>, u64);
 
-const PARTS: [Part; 8] = [
+const PARTS: [Part; 7] = [
     ("feeding", feeding::prepare, 45),
     ("limits", limits::prepare, 4),
     ("admission", admission::prepare, 60),
     ("rebuilding", rebuilding::prepare, 8),
-    ("spans", spans::prepare, 16),
     ("chains", chains::prepare, 10),
     ("growth", growth::prepare, 105),
     ("link", link::prepare, 0),

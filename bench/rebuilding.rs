@@ -1,9 +1,7 @@
 //! The rebuilding of taken jobs, beside copying as many bytes.
 
-use crate::admission::{self, Admission};
+use crate::admission;
 use crate::agreement::agree;
-#[cfg(before)]
-use crate::before;
 use crate::comparison::compare_rebuildings;
 use crate::interface::Head;
 use crate::store::Store;
@@ -16,35 +14,10 @@ use std::hint::black_box;
 const PASSES: usize = 16;
 
 /// A job, the store that has taken it, and the recipe.
-pub struct Kept {
-    pub job: Vec<u8>,
-    pub store: Store,
-    pub recipe: Vec<u32>,
-}
-
-impl Kept {
-    /// A job that a store takes.
-    pub fn new(mut store: Store, job: Vec<u8>) -> Self {
-        let recipe = store.take(&job);
-        Self { job, store, recipe }
-    }
-
-    /// Rebuilds the job at once.
-    pub fn rebuild(
-        &self,
-        rebuild: impl Fn(&Head, &[u8], &[u32], &[u32], &mut [u8], &mut u64) -> u32,
-        output: &mut [u8],
-    ) {
-        let Store {
-            head,
-            pool,
-            directory,
-            ..
-        } = &self.store;
-        let mut written = 0;
-        let refusal = rebuild(head, pool, directory, &self.recipe, output, &mut written);
-        black_box((refusal, written, output));
-    }
+struct Kept {
+    job: Vec<u8>,
+    store: Store,
+    recipe: Vec<u32>,
 }
 
 /// Jobs to rebuild, and an output as long as one.
@@ -57,7 +30,12 @@ impl Case {
     /// The jobs of a case of admission.
     pub fn new(case: &admission::Case) -> Self {
         let output = vec![0; case.jobs[0].job.len()];
-        let keep = |Admission { store, job, .. }: &_| Kept::new(store.clone(), job.clone());
+        let keep = |admission: &admission::Admission| {
+            let mut store = admission.store.clone();
+            let job = admission.job.clone();
+            let recipe = store.take(&job);
+            Kept { job, store, recipe }
+        };
         let jobs = case.jobs.iter().map(keep).collect();
         Self { jobs, output }
     }
@@ -68,14 +46,12 @@ impl Case {
     }
 }
 
-pub const CONTESTANTS: &[Contestant<Case>] = &[
+pub const CONTESTANTS: [Contestant<Case>; 3] = [
     ("library", |case| rebuild_jobs(library::rebuild, case)),
     ("plain Rust", |case| {
         rebuild_jobs(plain::rebuild::rebuild, case)
     }),
     ("memcpy", copy_jobs),
-    #[cfg(before)]
-    (before::NAME, |case| rebuild_jobs(before::rebuild, case)),
 ];
 
 /// Compares the rebuilt jobs, and measures their rebuilding.
@@ -85,7 +61,7 @@ pub fn prepare(inputs: &Inputs) -> Measure<'_> {
     cases.iter().for_each(compare);
     let contest = Contest {
         title: "Rebuilding",
-        contestants: CONTESTANTS,
+        contestants: &CONTESTANTS,
         undo: |_| (),
         unit: "MB/s",
         figure: |case, nanoseconds| megabytes_per_second(case.bytes(), nanoseconds),
@@ -114,8 +90,23 @@ fn rebuild_jobs(
     case: &mut Case,
 ) {
     for _ in 0..PASSES {
-        for kept in &case.jobs {
-            kept.rebuild(&rebuild, &mut case.output);
+        for Kept { store, recipe, .. } in &case.jobs {
+            let Store {
+                head,
+                pool,
+                directory,
+                ..
+            } = store;
+            let mut written = 0;
+            let refusal = rebuild(
+                head,
+                pool,
+                directory,
+                recipe,
+                &mut case.output,
+                &mut written,
+            );
+            black_box((refusal, written, &case.output));
         }
     }
 }

@@ -54,9 +54,9 @@ impl Store {
         let mut directory = self.directory[..2 * chunks].to_vec();
         directory.resize(DIRECTORY_LIMIT, 0);
         let head = Head {
+            window: self.head.window,
             chunks: chunks as u32,
             filled,
-            ..self.head
         };
         Self::new(head, pool, directory).entering(0..chunks as u32)
     }

@@ -22,7 +22,7 @@
 #define PART_BYTES 64
 
 /* The store. The library has no memory of its own: each call is lent these, a quote and a take the index too. */
-static uint32_t head[4]; /* the window, the chunks, the pool's bytes in use, the open rebuildings */
+static uint32_t head[3]; /* the window, the number of chunks, the pool's bytes in use */
 static uint8_t pool[POOL_BYTES];
 static uint32_t directory[2 * ENTRIES];
 static uint32_t chunk_index[INDEX_NUMBERS]; /* the chains along which equal chunks are found */

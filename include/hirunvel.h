@@ -36,33 +36,30 @@ extern "C" {
 #endif
 
 /* The grounds for a refusal. */
-#define HIRUNVEL_ACCEPTED 0u          /* none: the work is done */
-#define HIRUNVEL_WINDOW 1u            /* the window is not from 1 to HIRUNVEL_WINDOW_LIMIT */
-#define HIRUNVEL_UNSOUND 2u           /* the scanner is not sound, or its value is over 255 */
-#define HIRUNVEL_JOB_LENGTH 3u        /* the job is empty or over HIRUNVEL_JOB_LIMIT */
-#define HIRUNVEL_MEMORY_LIMIT 4u      /* pool, directory or recipe is over its limit, or the directory's length is odd */
-#define HIRUNVEL_HEAD 5u              /* the head does not fit pool and directory */
-#define HIRUNVEL_RECIPE_FULL 6u       /* at a chunk of the job, the recipe is full */
-#define HIRUNVEL_DIRECTORY_FULL 7u    /* a chunk of the job is new, and the directory has no unused entry */
-#define HIRUNVEL_POOL_FULL 8u         /* a chunk of the job is new, and longer than the pool bytes that are left */
-#define HIRUNVEL_CHUNK_NUMBER 9u      /* a chunk number is not below the number of chunks */
-#define HIRUNVEL_OUTPUT_SHORT 10u     /* the output is shorter than the rebuilt job */
-#define HIRUNVEL_INDEX_LENGTH 11u     /* the index has another length than HIRUNVEL_CHAINS + directory_len / 2 */
-#define HIRUNVEL_INDEX 12u            /* its chains do not meet each chunk once under its own sum, and nothing else */
-#define HIRUNVEL_HELD_PLACE 13u       /* the held place lies outside the recipe or its chunk */
-#define HIRUNVEL_OPEN_REBUILDINGS 14u /* opening would pass 65,535 open rebuildings, or closing finds none open */
+#define HIRUNVEL_ACCEPTED 0u       /* none: the work is done */
+#define HIRUNVEL_WINDOW 1u         /* the window is not from 1 to HIRUNVEL_WINDOW_LIMIT */
+#define HIRUNVEL_UNSOUND 2u        /* the scanner is not sound, or its value is over 255 */
+#define HIRUNVEL_JOB_LENGTH 3u     /* the job is empty or over HIRUNVEL_JOB_LIMIT */
+#define HIRUNVEL_MEMORY_LIMIT 4u   /* pool, directory or recipe is over its limit, or the directory's length is odd */
+#define HIRUNVEL_HEAD 5u           /* the head does not fit pool and directory */
+#define HIRUNVEL_RECIPE_FULL 6u    /* at a chunk of the job, the recipe is full */
+#define HIRUNVEL_DIRECTORY_FULL 7u /* a chunk of the job is new, and the directory has no unused entry */
+#define HIRUNVEL_POOL_FULL 8u      /* a chunk of the job is new, and longer than the pool bytes that are left */
+#define HIRUNVEL_CHUNK_NUMBER 9u   /* a chunk number is not below the number of chunks */
+#define HIRUNVEL_OUTPUT_SHORT 10u  /* the output is shorter than the rebuilt job */
+#define HIRUNVEL_INDEX_LENGTH 11u  /* the index has another length than HIRUNVEL_CHAINS + directory_len / 2 */
+#define HIRUNVEL_INDEX 12u         /* its chains do not meet every chunk just once under its own sum, and nothing else */
 
 /*
- * The largest accepted window, in bytes, the largest accepted lengths, and the most open rebuildings. Every length
- * counts elements: bytes for a job and a pool, 32-bit numbers for a directory, an index and a recipe. A directory has
- * two numbers per entry, so 131,070 numbers are 65,535 entries. A part and an output may have any length.
+ * The largest accepted window, in bytes, and the largest accepted lengths. Every length counts elements: bytes for a
+ * job and a pool, 32-bit numbers for a directory, an index and a recipe. A directory has two numbers per entry, so
+ * 131,070 numbers are 65,535 entries. A part and an output may have any length.
  */
 #define HIRUNVEL_WINDOW_LIMIT 64u
 #define HIRUNVEL_JOB_LIMIT 16777216u
 #define HIRUNVEL_POOL_LIMIT 67108864u
 #define HIRUNVEL_DIRECTORY_LIMIT 131070u
 #define HIRUNVEL_RECIPE_LIMIT 65535u
-#define HIRUNVEL_OPEN_LIMIT 65535u
 
 /*
  * The bytes of the longest chunk, whatever the window: memory of this length holds any one. With a window of w it is
@@ -118,12 +115,11 @@ uint32_t hirunvel_scanner_finish(uint32_t scanner[4], uint64_t *count);
 
 /*
  * A store is a head, a pool of chunk bytes, a directory, and an index. A directory entry is two numbers: a chunk's
- * offset in the pool, from 0, and its length. The head is four numbers:
+ * offset in the pool, from 0, and its length. The head is three numbers:
  *
  *   head[0]  the window
  *   head[1]  chunks: the number of entries in use
  *   head[2]  filled: the number of pool bytes in use
- *   head[3]  open: the number of open rebuildings
  *
  * Chunks are numbered from 0 in the order of their entries. The head fits pool and directory if all of this holds:
  *
@@ -133,8 +129,7 @@ uint32_t hirunvel_scanner_finish(uint32_t scanner[4], uint64_t *count);
  *   - chunks is at most the directory's entries, and filled at most the pool's length.
  *
  * Each call that is lent a store tests this entry by entry, so its time grows with the number of chunks. What the pool
- * and the directory of a fresh store hold does not matter. open may be any number: only hirunvel_rebuild_open and
- * hirunvel_rebuild_close read it or change it.
+ * and the directory of a fresh store hold does not matter.
  *
  * The index leads from the bytes of a chunk to its number; only a quote and a take are lent it. It has HIRUNVEL_CHAINS
  * heads, then one link per directory entry, in use or not. A head holds the number of its chain's first chunk. The link
@@ -146,10 +141,9 @@ uint32_t hirunvel_scanner_finish(uint32_t scanner[4], uint64_t *count);
  * To make the index of a fresh store, set each of its bytes to FF, as memset(index, 0xFF, sizeof index) does for an
  * array. Hand it on from call to call, as head, pool and directory: a take enters each new chunk at the front of its
  * chain. HIRUNVEL_INDEX_LENGTH and HIRUNVEL_INDEX are never reported of a store that was opened fresh with such an
- * index and that only takes, and openings and closings of rebuildings, have changed since. To make an index for a store
- * that has none, start from a fresh one and enter the chunks: for each n, index[HIRUNVEL_CHAINS + n] gets what the head
- * of its chain holds, and the head n. Any order will do; the index is tested faster if they are entered in the order of
- * their numbers, as takes do.
+ * index and that only takes have changed since. To make an index for a store that has none, start from a fresh one and
+ * enter the chunks: for each n, index[HIRUNVEL_CHAINS + n] gets what the head of its chain holds, and the head n. Any
+ * order will do; the index is tested faster if they are entered in the order of their numbers, as takes do.
  *
  * HIRUNVEL_INDEX holds unless the chains, each followed from its head to its end, meet every chunk of the store just
  * once, on the chain of its own sum, and nothing else. The order of the chunks on a chain does not matter, and links
@@ -170,9 +164,9 @@ uint32_t hirunvel_scanner_finish(uint32_t scanner[4], uint64_t *count);
 
 /*
  * Opens a store. Tests HIRUNVEL_WINDOW.
- * Writes head: window, 0, 0, 0. Refused: all zeros.
+ * Writes head: window, 0, 0. Refused: all zeros.
  */
-uint32_t hirunvel_store_open(uint32_t window, uint32_t head[4]);
+uint32_t hirunvel_store_open(uint32_t window, uint32_t head[3]);
 
 /*
  * Quotes a job: tells what a take of it would come to, and stores nothing. A chunk is repeated if the store holds it or
@@ -196,7 +190,7 @@ uint32_t hirunvel_store_open(uint32_t window, uint32_t head[4]);
  * HIRUNVEL_POOL_FULL the recipe holds the numbers of the chunks before the refused one, and the rest is untouched.
  * After the other grounds the whole recipe is untouched.
  */
-uint32_t hirunvel_store_quote(const uint32_t head[4], const uint8_t *pool, size_t pool_len, const uint32_t *directory,
+uint32_t hirunvel_store_quote(const uint32_t head[3], const uint8_t *pool, size_t pool_len, const uint32_t *directory,
                               size_t directory_len, const uint32_t *index, size_t index_len, uint32_t *recipe,
                               size_t recipe_len, const uint8_t *job, size_t job_len, uint64_t counts[6],
                               int64_t saving[1]);
@@ -205,13 +199,13 @@ uint32_t hirunvel_store_quote(const uint32_t head[4], const uint8_t *pool, size_
  * Takes a job: its new chunks go into the pool, the directory and the index. Tests what hirunvel_store_quote tests, in
  * the same order. On the same head, pool, directory, index, recipe and job the two give the same result and leave the
  * same recipe, counts and saving, refused or not. No quote need come before a take.
- * Reads job. Writes head[1] and head[2], the pool from the old filled to the new one, the directory entries of the new
- * chunks, and recipe, counts and saving as a quote does. Enters the new chunks into the index, in the order of their
- * numbers, each at the front of its chain: its link gets what the chain's head holds, and the head its number. The rest
- * of head, pool, directory, index and recipe is untouched.
+ * Reads job. Writes head, the pool from the old filled to the new one, the directory entries of the new chunks, and
+ * recipe, counts and saving as a quote does. Enters the new chunks into the index, in the order of their numbers, each
+ * at the front of its chain: its link gets what the chain's head holds, and the head its number. The rest of pool,
+ * directory, index and recipe is untouched.
  * Refused: head, pool, directory and index are untouched; recipe, counts and saving are as a quote leaves them.
  */
-uint32_t hirunvel_store_take(uint32_t head[4], uint8_t *pool, size_t pool_len, uint32_t *directory,
+uint32_t hirunvel_store_take(uint32_t head[3], uint8_t *pool, size_t pool_len, uint32_t *directory,
                              size_t directory_len, uint32_t *index, size_t index_len, uint32_t *recipe,
                              size_t recipe_len, const uint8_t *job, size_t job_len, uint64_t counts[6],
                              int64_t saving[1]);
@@ -220,7 +214,7 @@ uint32_t hirunvel_store_take(uint32_t head[4], uint8_t *pool, size_t pool_len, u
  * Finds a chunk in the pool. Tests HIRUNVEL_WINDOW, HIRUNVEL_MEMORY_LIMIT, HIRUNVEL_HEAD, HIRUNVEL_CHUNK_NUMBER.
  * Reads head, pool, directory. stretch[0] is the chunk's offset in the pool, stretch[1] its length. Refused: both 0.
  */
-uint32_t hirunvel_store_look(const uint32_t head[4], const uint8_t *pool, size_t pool_len, const uint32_t *directory,
+uint32_t hirunvel_store_look(const uint32_t head[3], const uint8_t *pool, size_t pool_len, const uint32_t *directory,
                              size_t directory_len, uint32_t number, uint64_t stretch[2]);
 
 /*
@@ -230,78 +224,16 @@ uint32_t hirunvel_store_look(const uint32_t head[4], const uint8_t *pool, size_t
  * rest of it is untouched. Refused: output is untouched, written[0] is 0.
  *
  * The recipe that an accepted take left, with its counts[0] as recipe_len, gives back the job that was taken if the
- * store was opened fresh and only takes, and openings and closings of rebuildings, have changed it since. Any other
- * store whose head fits is accepted too, and gives back whatever bytes its entries name. The recipe of a quote may name
- * chunks that are not stored: take the job before rebuilding it.
+ * store was opened fresh and only takes have changed it since. Any other store whose head fits is accepted too, and
+ * gives back whatever bytes its entries name. The recipe of a quote may name chunks that are not stored: take the job
+ * before rebuilding it.
  *
  * Read the output only after the call: while it runs, bytes beyond a chunk but within the job may be written for a
  * moment and then written over.
  */
-uint32_t hirunvel_rebuild(const uint32_t head[4], const uint8_t *pool, size_t pool_len, const uint32_t *directory,
+uint32_t hirunvel_rebuild(const uint32_t head[3], const uint8_t *pool, size_t pool_len, const uint32_t *directory,
                           size_t directory_len, const uint32_t *recipe, size_t recipe_len, uint8_t *output,
                           size_t output_len, uint64_t written[1]);
-
-/*
- * A job can also be rebuilt in spans, through a buffer that is shorter than the job. A held place says where the next
- * span starts. It is two numbers:
- *
- *   held[0]  a place in the recipe, counted from 0
- *   held[1]  an offset in the chunk that the recipe names there, counted from 0 and below the chunk's length
- *
- * At the end of the recipe it is recipe_len, 0. Open a rebuilding, ask for spans until held[0] is recipe_len, and close
- * the rebuilding:
- *
- *   hirunvel_rebuild_open(head, .., recipe, recipe_len, held)
- *   while held[0] < recipe_len
- *       hirunvel_rebuild_span(head, .., recipe, recipe_len, held, output, output_len, written)
- *       print written[0] bytes of the output
- *   hirunvel_rebuild_close(head, ..)
- *
- * Recipe and held place stay with the caller; of a rebuilding the store keeps only that it is open, as one of head[3].
- * Several can be open at once, also of the same recipe. Jobs can be quoted and taken between two spans: a take changes
- * no chunk that is stored, so the spans go on as if it had not come.
- */
-
-/*
- * Opens a rebuilding. Tests HIRUNVEL_WINDOW, HIRUNVEL_MEMORY_LIMIT, HIRUNVEL_HEAD, HIRUNVEL_CHUNK_NUMBER (of the whole
- * recipe), HIRUNVEL_OPEN_REBUILDINGS.
- * Reads pool, directory, recipe. Writes head[3], which is one more, and held: 0, 0. The rest of head is untouched.
- * Refused: head is untouched, held is 0, 0. HIRUNVEL_OPEN_REBUILDINGS is reported if head[3] is HIRUNVEL_OPEN_LIMIT or
- * more.
- */
-uint32_t hirunvel_rebuild_open(uint32_t head[4], const uint8_t *pool, size_t pool_len, const uint32_t *directory,
-                               size_t directory_len, const uint32_t *recipe, size_t recipe_len, uint32_t held[2]);
-
-/*
- * Writes a span of the job to the output: its bytes from the held place on, until the output is full or the recipe
- * ends. Tests HIRUNVEL_WINDOW, HIRUNVEL_MEMORY_LIMIT, HIRUNVEL_HEAD, HIRUNVEL_CHUNK_NUMBER (of the whole recipe),
- * HIRUNVEL_HELD_PLACE.
- * Reads head, pool, directory, recipe. written[0] is the number of bytes written, from the start of the output; the
- * rest of it is untouched. Writes held: the place of the next byte. After the last byte of a chunk this is the start of
- * the next chunk, and after that of the job recipe_len, 0. With an output of length 0, and at the end of the recipe, a
- * span writes no bytes and held stays as it is; any other span writes at least one. So a job of n bytes has at most n
- * spans that are not empty.
- * Refused: held and output are untouched, written[0] is 0. HIRUNVEL_HELD_PLACE is reported unless held[0] is below
- * recipe_len and held[1] below the length of the chunk, or the two are recipe_len, 0.
- *
- * The spans from 0, 0 to the end of the recipe, each with the place that the one before it left in held, are together
- * the bytes that hirunvel_rebuild writes, wherever they end and whatever is taken between them. Whether a rebuilding is
- * open is not tested, and head[3] not read. As with hirunvel_rebuild, read the output only after the call.
- *
- * Each span tests the whole store and the whole recipe, so its time grows with both, however short the output is.
- */
-uint32_t hirunvel_rebuild_span(const uint32_t head[4], const uint8_t *pool, size_t pool_len, const uint32_t *directory,
-                               size_t directory_len, const uint32_t *recipe, size_t recipe_len, uint32_t held[2],
-                               uint8_t *output, size_t output_len, uint64_t written[1]);
-
-/*
- * Closes a rebuilding, at the end of its recipe or before. Tests HIRUNVEL_WINDOW, HIRUNVEL_MEMORY_LIMIT, HIRUNVEL_HEAD,
- * HIRUNVEL_OPEN_REBUILDINGS.
- * Reads pool, directory. Writes head[3], which is one less. The rest of head is untouched. Refused: head is untouched.
- * HIRUNVEL_OPEN_REBUILDINGS is reported if head[3] is 0.
- */
-uint32_t hirunvel_rebuild_close(uint32_t head[4], const uint8_t *pool, size_t pool_len, const uint32_t *directory,
-                                size_t directory_len);
 
 #ifdef __cplusplus
 }

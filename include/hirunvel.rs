@@ -23,16 +23,13 @@ pub const CHUNK_NUMBER: u32 = 9;
 pub const OUTPUT_SHORT: u32 = 10;
 pub const INDEX_LENGTH: u32 = 11;
 pub const INDEX: u32 = 12;
-pub const HELD_PLACE: u32 = 13;
-pub const OPEN_REBUILDINGS: u32 = 14;
 
-// The limits behind the grounds 1, 3, 4 and 14, the bytes of the longest chunk, and the chains of an index.
+// The limits behind the grounds 1, 3 and 4, the bytes of the longest chunk, and the chains of an index.
 pub const WINDOW_LIMIT: u32 = 64;
 pub const JOB_LIMIT: usize = 16_777_216;
 pub const POOL_LIMIT: usize = 67_108_864;
 pub const DIRECTORY_LIMIT: usize = 131_070;
 pub const RECIPE_LIMIT: usize = 65_535;
-pub const OPEN_LIMIT: u32 = 65_535;
 pub const CHUNK_LIMIT: u32 = 16_385;
 pub const CHAINS: usize = 1_024;
 
@@ -46,9 +43,9 @@ unsafe extern "C" {
         fed: *mut [u64; 4],
     ) -> u32;
     pub fn hirunvel_scanner_finish(scanner: *mut [u32; 4], count: *mut u64) -> u32;
-    pub fn hirunvel_store_open(window: u32, head: *mut [u32; 4]) -> u32;
+    pub fn hirunvel_store_open(window: u32, head: *mut [u32; 3]) -> u32;
     pub fn hirunvel_store_quote(
-        head: *const [u32; 4],
+        head: *const [u32; 3],
         pool: *const u8,
         pool_len: usize,
         directory: *const u32,
@@ -63,7 +60,7 @@ unsafe extern "C" {
         saving: *mut [i64; 1],
     ) -> u32;
     pub fn hirunvel_store_take(
-        head: *mut [u32; 4],
+        head: *mut [u32; 3],
         pool: *mut u8,
         pool_len: usize,
         directory: *mut u32,
@@ -78,7 +75,7 @@ unsafe extern "C" {
         saving: *mut [i64; 1],
     ) -> u32;
     pub fn hirunvel_store_look(
-        head: *const [u32; 4],
+        head: *const [u32; 3],
         pool: *const u8,
         pool_len: usize,
         directory: *const u32,
@@ -87,7 +84,7 @@ unsafe extern "C" {
         stretch: *mut [u64; 2],
     ) -> u32;
     pub fn hirunvel_rebuild(
-        head: *const [u32; 4],
+        head: *const [u32; 3],
         pool: *const u8,
         pool_len: usize,
         directory: *const u32,
@@ -97,35 +94,5 @@ unsafe extern "C" {
         output: *mut u8,
         output_len: usize,
         written: *mut [u64; 1],
-    ) -> u32;
-    pub fn hirunvel_rebuild_open(
-        head: *mut [u32; 4],
-        pool: *const u8,
-        pool_len: usize,
-        directory: *const u32,
-        directory_len: usize,
-        recipe: *const u32,
-        recipe_len: usize,
-        held: *mut [u32; 2],
-    ) -> u32;
-    pub fn hirunvel_rebuild_span(
-        head: *const [u32; 4],
-        pool: *const u8,
-        pool_len: usize,
-        directory: *const u32,
-        directory_len: usize,
-        recipe: *const u32,
-        recipe_len: usize,
-        held: *mut [u32; 2],
-        output: *mut u8,
-        output_len: usize,
-        written: *mut [u64; 1],
-    ) -> u32;
-    pub fn hirunvel_rebuild_close(
-        head: *mut [u32; 4],
-        pool: *const u8,
-        pool_len: usize,
-        directory: *const u32,
-        directory_len: usize,
     ) -> u32;
 }

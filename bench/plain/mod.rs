@@ -6,5 +6,4 @@ pub mod gear;
 pub mod hash_store;
 pub mod index;
 pub mod rebuild;
-pub mod spans;
 pub mod store;

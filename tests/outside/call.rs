@@ -48,14 +48,6 @@ pub fn compare<C: Call>(call: &C, tally: &mut Tally) -> Result<(u32, C), String>
     ))
 }
 
-/// Compares, and checks that the call ends with this refusal. Gives the call as it was left.
-pub fn expect<C: Call>(call: &C, refusal: u32, tally: &mut Tally) -> Result<C, String> {
-    match compare(call, tally)? {
-        (found, after) if found == refusal => Ok(after),
-        (found, _) => Err(format!("Refusal {found} came and not {refusal}: {call:#?}")),
-    }
-}
-
 /// The lines in which a call after the work differs from the call before.
 fn changes<C: Call>(before: &C, after: &C) -> String {
     let (before, after) = (format!("{before:#?}"), format!("{after:#?}"));

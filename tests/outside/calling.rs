@@ -1,21 +1,15 @@
-//! Single calls on forged stores: quotes, takes, looks and rebuildings, whole and in spans.
+//! Single calls on forged stores: quotes, takes, looks and rebuildings.
 
 use crate::forged_index;
 use crate::forging;
 use crate::jobs;
 use crate::memory::{Lent, Store};
-use crate::model::RECIPE_LIMIT;
-use crate::one_span::OneSpan;
 use crate::pair::Pair;
 use crate::random::Random;
 use crate::room::{try_rooms, Roomy};
 use crate::shrink::hold;
-use crate::spanning;
 use crate::store_calls::{Look, Rebuild, StoreOpen};
 use crate::tally::Tally;
-
-/// The longest output of a rebuilding.
-const LONGEST_OUTPUT: usize = 10_000;
 
 /// Opens stores, then makes this many rounds of calls on forged ones.
 pub fn run(random: &mut Random, rounds: u64, tally: &mut Tally) -> Result<(), String> {
@@ -46,8 +40,8 @@ pub fn run(random: &mut Random, rounds: u64, tally: &mut Tally) -> Result<(), St
     Ok(())
 }
 
-/// Looks at numbers in and out of the store, and rebuilds a recipe, whole and in spans. Some of its
-/// numbers may be wrong, and in some cases it is over the limit.
+/// Looks at numbers in and out of the store, and rebuilds a recipe, some of whose numbers may be
+/// wrong.
 fn look_and_rebuild(random: &mut Random, store: &Store, tally: &mut Tally) -> Result<(), String> {
     let chunks = store.chunks();
     let any = random.below(chunks.clamp(1, 50) as usize) as u32;
@@ -61,15 +55,24 @@ fn look_and_rebuild(random: &mut Random, store: &Store, tally: &mut Tally) -> Re
     if places > 0 && random.once_in(3) {
         recipe[random.below(places)] = random.pick(&[chunks, chunks.wrapping_add(1), u32::MAX]);
     }
-    if random.once_in(500) {
-        recipe.resize(RECIPE_LIMIT + 1, 0);
-    }
-    let length = store.told_length(&recipe).min(LONGEST_OUTPUT);
+    let length = rebuilt_length(store, &recipe);
     let shorter = length.saturating_sub(1);
     let (longer, any) = (length + random.below(20), random.below(length + 1));
     for length in [length, shorter, longer, any] {
         let output = Lent::new(&random.bytes(length));
-        hold(&OneSpan(Rebuild::new(store, &recipe, &output)), tally)?;
+        hold(&Rebuild::new(store, &recipe, &output), tally)?;
     }
-    spanning::call_each(random, store, &recipe, tally)
+    Ok(())
+}
+
+/// The sum of the lengths that the directory tells for these numbers, those left out that are too
+/// large.
+fn rebuilt_length(store: &Store, recipe: &[u32]) -> usize {
+    let length = |&number: &u32| store.directory.get(2 * number as usize + 1);
+    let sum: usize = recipe
+        .iter()
+        .filter_map(length)
+        .map(|&length| length as usize)
+        .sum();
+    sum.min(10_000)
 }

@@ -1,13 +1,12 @@
 //! The jobs that the scope works by hand, with the answers that it gives, jobs that repeat their own
-//! chunks, recipes at the edges of a packet, an index, and a rebuilding in spans.
+//! chunks, recipes at the edges of a packet, and an index.
 
-use crate::call::{compare, expect};
+use crate::call::compare;
 use crate::memory::{Lent, Store};
 use crate::model::index::{sum, TABLE};
-use crate::model::{ACCEPTED, CHAINS, DIRECTORY_FULL, OPEN_REBUILDINGS, POOL_FULL, RECIPE_FULL};
+use crate::model::{ACCEPTED, CHAINS, DIRECTORY_FULL, POOL_FULL, RECIPE_FULL};
 use crate::pair::Pair;
 use crate::scanner_calls::{Feed, Finish, ScannerOpen};
-use crate::span_calls::{RebuildClose, RebuildOpen, Span};
 use crate::store_calls::{Quote, Take};
 use crate::tally::Tally;
 
@@ -64,16 +63,6 @@ const ANSWERED: [Answered; 7] = [
     ),
 ];
 
-/// Of spans of the hand-worked job, whose recipe is 0, 0, 1, one after another: the output's length, the
-/// bytes that it gets, and the place that is handed back.
-const SPANS: [(usize, &[u8], [u32; 2]); 5] = [
-    (4, &[3, 1, 2, 3], [1, 1]),
-    (0, &[], [1, 1]),
-    (2, &[1, 2], [2, 0]),
-    (1, &[7], [3, 0]),
-    (5, &[], [3, 0]),
-];
-
 /// The numbers of a recipe, and the packets in which they travel.
 const PACKETS: [(usize, i64); 8] = [
     (1, 1),
@@ -95,14 +84,13 @@ pub fn run(tally: &mut Tally) -> Result<(), String> {
     check_cuts(1, &rise, &[], tally)?;
     rise.push(0);
     check_cuts(1, &rise, &[(257, 256, 255)], tally)?;
-    let fresh = Store::new([2, 0, 0, 0], &[7; 64], &[7; 64]);
+    let fresh = Store::new([2, 0, 0], &[7; 64], &[7; 64]);
     for (job, recipe, terms) in ANSWERED {
         check_answer(&fresh, job, recipe, terms, tally)?;
     }
     check_revision(&fresh, tally)?;
     check_refusals(tally)?;
     check_index(&fresh, tally)?;
-    check_spans(&fresh, tally)?;
     for (numbers, packets) in PACKETS {
         check_packets(numbers, packets, tally)?;
     }
@@ -185,7 +173,7 @@ fn check_refusals(tally: &mut Tally) -> Result<(), String> {
         (8, 2, 4, RECIPE_FULL, &[0, 0, 1, 0]),
         (9, 3, 6, ACCEPTED, &[0, 0, 1, 0, 2, 8]),
     ] {
-        let store = Store::new([2, 0, 0, 0], &vec![7; pool], &vec![7; 2 * entries]);
+        let store = Store::new([2, 0, 0], &vec![7; pool], &vec![7; 2 * entries]);
         let pair = Pair::new(&store, &Lent::new(&vec![8; places]), &job);
         let (found, after) = pair.compare(tally)?;
         let counts = match refusal {
@@ -222,41 +210,9 @@ fn check_index(fresh: &Store, tally: &mut Tally) -> Result<(), String> {
     Ok(())
 }
 
-/// Rebuilds the hand-worked job in spans, and takes another job after the first of them.
-fn check_spans(fresh: &Store, tally: &mut Tally) -> Result<(), String> {
-    let (job, recipe, terms) = ANSWERED[0];
-    let store = check_answer(fresh, job, recipe, terms, tally)?;
-    let RebuildOpen {
-        mut store,
-        mut held,
-        ..
-    } = expect(&RebuildOpen::new(&store, recipe), ACCEPTED, tally)?;
-    for (index, (length, bytes, place)) in SPANS.into_iter().enumerate() {
-        let span = Span::new(&store, recipe, &held, &vec![8; length]);
-        let after = expect(&span, ACCEPTED, tally)?;
-        if after.written_bytes() != bytes || after.held[..] != place {
-            return Err(format!(
-                "The span should give {bytes:?} and hand back {place:?}: {after:#?}"
-            ));
-        }
-        held = after.held;
-        if index == 0 {
-            store = check_answer(&store, &[9], &[2], (1, 0, -72, [0; 3]), tally)?;
-        }
-    }
-    let closed = expect(&RebuildClose::new(&store), ACCEPTED, tally)?.store;
-    expect(&RebuildClose::new(&closed), OPEN_REBUILDINGS, tally)?;
-    if (&store.head[..], &closed.head[..]) != (&[2, 3, 5, 1], &[2, 3, 5, 0]) {
-        return Err(format!(
-            "One rebuilding is open before the closing, none after it: {store:#?} {closed:#?}"
-        ));
-    }
-    Ok(())
-}
-
 /// Takes a job of equal bytes that has this many chunks, the first of them new, and compares its saving.
 fn check_packets(numbers: usize, packets: i64, tally: &mut Tally) -> Result<(), String> {
-    let store = Store::new([1, 0, 0, 0], &[7; 2], &[7; 2]);
+    let store = Store::new([1, 0, 0], &[7; 2], &[7; 2]);
     let job = vec![5; 2 * numbers];
     let recipe = Lent::new(&vec![8; numbers]);
     let (refusal, after) = Pair::new(&store, &recipe, &job).compare(tally)?;

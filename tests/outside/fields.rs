@@ -188,7 +188,6 @@ fn check_tight_example() -> Result<(), String> {
         takes,
         job: Lent::new(&template.job(&contents[index])),
         recipe: Lent::new(&[9; 50]),
-        events: Vec::new(),
     });
     let history = History {
         window: 1,

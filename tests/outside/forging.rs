@@ -42,15 +42,10 @@ pub fn store(random: &mut Random) -> (Store, Vec<u8>) {
     let spare_pool = random.bytes(pool);
     let entries = random.below(8);
     let spare_directory = random.numbers(2 * entries);
-    let mut store = Store::of_chunks(window, &held, &spare_pool, &spare_directory);
-    store.head[3] = open_rebuildings(random);
-    (store, job)
-}
-
-/// A number of open rebuildings: any, or one at an edge. Each fits any pool and directory.
-pub fn open_rebuildings(random: &mut Random) -> u32 {
-    let any = random.number() as u32;
-    random.pick(&[0, 1, 65_534, 65_535, 65_536, u32::MAX, any])
+    (
+        Store::of_chunks(window, &held, &spare_pool, &spare_directory),
+        job,
+    )
 }
 
 /// Recipe memory of any numbers, of small ones, or of ones near a power of two.
@@ -106,7 +101,7 @@ pub fn damaged_store(random: &mut Random) -> (Store, Vec<u8>) {
     (store, job)
 }
 
-/// Changes one of the head's first three numbers.
+/// Changes one number of the head.
 fn damage_head(random: &mut Random, store: &mut Store) {
     let index = random.below(3);
     let number = store.head[index];

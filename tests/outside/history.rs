@@ -1,27 +1,22 @@
-//! Quotes and takes one after another with one store, from a fresh head on, and rebuildings in spans
-//! between them.
+//! Quotes and takes one after another with one store, from a fresh head on.
 
 use crate::call::compare;
 use crate::forging;
 use crate::memory::{Lent, Store};
 use crate::model::{chunks, index, ACCEPTED, INDEX, INDEX_LENGTH, OUTPUT_SHORT, RECIPE_LIMIT};
-use crate::one_span::OneSpan;
 use crate::pair::Pair;
 use crate::random::Random;
 use crate::shrink::{shorter, smaller_bytes, without_block, Case, Smaller};
-use crate::span_events::{Event, Rebuildings};
 use crate::store_calls::{Look, Rebuild, StoreOpen, Take};
 use crate::tally::Tally;
 use std::collections::HashMap;
 
-/// A quote or a take of a history: the job, the recipe memory that is lent, and the calls after it that
-/// rebuild in spans.
+/// A quote or a take of a history: the job and the recipe memory that is lent.
 #[derive(Clone, Debug)]
 pub struct Step {
     pub takes: bool,
     pub job: Lent<u8>,
     pub recipe: Lent<u32>,
-    pub events: Vec<Event>,
 }
 
 impl Step {
@@ -48,7 +43,6 @@ impl Step {
                     takes,
                     job: Lent::new(job),
                     recipe: forging::recipe(random, places),
-                    events: Event::random(random),
                 }
             })
             .collect()
@@ -101,26 +95,19 @@ impl History {
         }
     }
 
-    /// The store at the start.
-    fn fresh(&self, tally: &mut Tally) -> Result<Store, String> {
+    /// Makes the quotes and takes, compares each with the model, with the other on the same inputs and
+    /// with the chunks' first appearances, and at the end checks the index and rebuilds every accepted
+    /// job. No index may be refused. Gives the answers.
+    pub fn run(&self, tally: &mut Tally) -> Result<Vec<Answer<'_>>, String> {
         let (_, opened) = compare(&StoreOpen::new(self.window), tally)?;
-        Ok(Store {
+        let mut store = Store {
             head: opened.head,
             pool: self.pool.clone(),
             directory: self.directory.clone(),
             index: Lent::new(&index::fresh(self.directory.len())),
-        })
-    }
-
-    /// Makes the quotes and takes, compares each with the model, with the other on the same inputs and
-    /// with the chunks' first appearances, and at the end checks the index and rebuilds every accepted
-    /// job. No index may be refused. Each span between them must give the next bytes of its job. Gives
-    /// the answers.
-    pub fn run(&self, tally: &mut Tally) -> Result<Vec<Answer<'_>>, String> {
-        let mut store = self.fresh(tally)?;
+        };
         let mut appearances = Appearances::new();
         let mut answers = Vec::new();
-        let mut rebuildings = Rebuildings::default();
         for (place, step) in self.steps.iter().enumerate() {
             let pair = Pair::new(&store, &step.recipe, &step.job);
             let (refusal, after) = pair.compare(tally)?;
@@ -145,18 +132,16 @@ impl History {
             if step.takes {
                 store = after.store;
             }
-            rebuildings.check_open(&store)?;
-            for &event in &step.events {
-                rebuildings.call(event, &mut store, &answers, tally)?;
-            }
         }
         check_index(&store)?;
-        rebuildings.finish(&store, tally)?;
-        check_accepted(&store, &answers, tally)?;
+        let accepted = answers.iter().filter(|answer| answer.taken);
+        for (index, accepted) in accepted.enumerate() {
+            check_rebuilt(&store, accepted, index % 3, tally)?;
+        }
         Ok(answers)
     }
 
-    /// Histories with fewer steps, shorter jobs, fewer calls between them or less memory.
+    /// Histories with fewer steps, shorter jobs or less memory.
     pub fn smaller_histories(&self) -> impl Iterator<Item = Self> + '_ {
         let fewer = without_block(&self.steps).map(|steps| History {
             steps,
@@ -172,11 +157,7 @@ impl History {
                 recipe,
                 ..step.clone()
             });
-            let events = without_block(&step.events).map(|events| Step {
-                events,
-                ..step.clone()
-            });
-            events.chain(recipes).chain(jobs).map(move |step| {
+            recipes.chain(jobs).map(move |step| {
                 let mut smaller = self.clone();
                 smaller.steps[index] = step;
                 smaller
@@ -248,17 +229,8 @@ fn check_index(store: &Store) -> Result<(), String> {
     Err(format!("The chunks were not entered in order: {store:#?}"))
 }
 
-/// Rebuilds every accepted job, with 0, 1 or 2 bytes of output to spare.
-fn check_accepted(store: &Store, answers: &[Answer], tally: &mut Tally) -> Result<(), String> {
-    let accepted = answers.iter().filter(|answer| answer.taken);
-    for (index, job) in accepted.enumerate() {
-        check_rebuilt(store, job, index % 3, tally)?;
-    }
-    Ok(())
-}
-
-/// Rebuilds an accepted job, whole and in one span, with some bytes of output to spare, and looks at its
-/// first chunk. An output that is one byte too short must be refused, but not of the span.
+/// Rebuilds an accepted job, with some bytes of output to spare, and looks at its first chunk. An
+/// output that is one byte too short must be refused.
 fn check_rebuilt(
     store: &Store,
     job: &Answer,
@@ -269,17 +241,17 @@ fn check_rebuilt(
         .map(|index| index as u8 ^ 0x5C)
         .collect();
     let rebuild = Rebuild::new(store, &job.recipe, &Lent::new(&output));
-    let (refusal, after) = OneSpan(rebuild).compare(tally)?;
+    let (refusal, after) = compare(&rebuild, tally)?;
     if refusal != ACCEPTED || after.output[..job.job.len()] != *job.job {
         return Err(format!(
             "The recipe does not give back its job, refusal {refusal}: {after:#?}"
         ));
     }
     let short = Rebuild::new(store, &job.recipe, &Lent::new(&output[..job.job.len() - 1]));
-    let (refusal, after) = OneSpan(short).compare(tally)?;
+    let (refusal, _) = compare(&short, tally)?;
     if refusal != OUTPUT_SHORT {
         return Err(format!(
-            "An output that is too short gives refusal {refusal}: {after:#?}"
+            "An output that is too short gives refusal {refusal}: {short:#?}"
         ));
     }
     let (refusal, after) = compare(&Look::new(store, job.recipe[0]), tally)?;

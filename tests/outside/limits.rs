@@ -1,16 +1,14 @@
-//! Jobs, pools, directories, recipes, chunks and open rebuildings at their limits and one past them.
+//! Jobs, pools, directories, recipes and chunks at their limits and one past them.
 
-use crate::call::{self, Call};
+use crate::call::{compare, Call};
 use crate::hirunvel::CHUNK_LIMIT;
 use crate::jobs;
 use crate::memory::{Lent, Store};
 use crate::model::*;
-use crate::one_span::OneSpan;
 use crate::pair::Pair;
 use crate::random::Random;
 use crate::scanner_calls::Feed;
 use crate::shrink::shrink;
-use crate::span_calls::{RebuildClose, RebuildOpen, Span};
 use crate::store_calls::{Look, Rebuild, Take};
 use crate::tally::Tally;
 
@@ -23,13 +21,16 @@ pub fn run(random: &mut Random, tally: &mut Tally) -> Result<(), String> {
     longest_directories(random, tally)?;
     longest_chains(tally)?;
     longest_chunks(tally)?;
-    largest_sums(tally)?;
-    most_open(tally)
+    largest_sums(tally)
 }
 
 /// Compares a call and checks that it ends with this refusal. Gives the call as it was left.
 fn expect<C: Call>(call: &C, refusal: u32, tally: &mut Tally) -> Result<C, String> {
-    call::expect(call, refusal, tally).map_err(|fault| shrink(call, fault))
+    match compare(call, tally) {
+        Ok((found, after)) if found == refusal => Ok(after),
+        Ok((found, _)) => Err(format!("Refusal {found} came and not {refusal}: {call:#?}")),
+        Err(fault) => Err(shrink(call, fault)),
+    }
 }
 
 /// Quotes and takes a job with a recipe memory of some numbers. Gives the take.
@@ -48,50 +49,19 @@ fn look(store: &Store, number: u32, refusal: u32, tally: &mut Tally) -> Result<L
     expect(&Look::new(store, number), refusal, tally)
 }
 
-/// Rebuilds a job with an output of some bytes, whole and in one span, and opens a rebuilding of it.
+/// Rebuilds a job with an output of some bytes.
 fn rebuild(
     store: &Store,
     recipe: &[u32],
     output: usize,
     refusal: u32,
     tally: &mut Tally,
-) -> Result<(), String> {
-    let case = OneSpan(Rebuild::new(store, recipe, &Lent::new(&used(output))));
-    match case.compare(tally) {
-        Ok((found, _)) if found == refusal => {}
-        Ok((found, _)) => {
-            return Err(format!("Refusal {found} came and not {refusal}: {case:#?}"));
-        }
-        Err(fault) => return Err(shrink(&case, fault)),
-    }
-    let refusal = match refusal {
-        OUTPUT_SHORT => ACCEPTED,
-        _ => refusal,
-    };
-    expect(&RebuildOpen::new(store, recipe), refusal, tally)?;
-    Ok(())
-}
-
-/// Asks for a span from a held place on, with an output of some bytes.
-fn span(
-    store: &Store,
-    recipe: &[u32],
-    held: [usize; 2],
-    output: usize,
-    refusal: u32,
-    tally: &mut Tally,
-) -> Result<Span, String> {
-    let held = held.map(|number| number as u32);
+) -> Result<Rebuild, String> {
     expect(
-        &Span::new(store, recipe, &held, &used(output)),
+        &Rebuild::new(store, recipe, &Lent::new(&used(output))),
         refusal,
         tally,
     )
-}
-
-/// Closes a rebuilding.
-fn close(store: &Store, refusal: u32, tally: &mut Tally) -> Result<RebuildClose, String> {
-    expect(&RebuildClose::new(store), refusal, tally)
 }
 
 /// Memory that holds something else than zeros.
@@ -105,7 +75,7 @@ fn longest_jobs(random: &mut Random, tally: &mut Tally) -> Result<(), String> {
     for byte in job.iter_mut().step_by(1_000) {
         *byte = random.byte();
     }
-    let fresh = Store::new([WINDOW_LIMIT, 0, 0, 0], &used(JOB_LIMIT), &used(60_000));
+    let fresh = Store::new([WINDOW_LIMIT, 0, 0], &used(JOB_LIMIT), &used(60_000));
     let after = take(&fresh, 30_000, &job, ACCEPTED, tally)?;
     let (store, recipe) = (&after.store, after.written_recipe());
     rebuild(store, recipe, JOB_LIMIT, ACCEPTED, tally)?;
@@ -126,7 +96,7 @@ fn longest_jobs(random: &mut Random, tally: &mut Tally) -> Result<(), String> {
 fn longest_recipes(random: &mut Random, tally: &mut Tally) -> Result<(), String> {
     for window in [1, WINDOW_LIMIT] {
         let chunk = window as usize + 1;
-        let fresh = Store::new([window, 0, 0, 0], &used(2_000), &used(10));
+        let fresh = Store::new([window, 0, 0], &used(2_000), &used(10));
         let job = vec![random.byte(); chunk * (RECIPE_LIMIT + 1)];
         let fitting = &job[chunk..];
         let after = take(&fresh, RECIPE_LIMIT, fitting, ACCEPTED, tally)?;
@@ -141,16 +111,6 @@ fn longest_recipes(random: &mut Random, tally: &mut Tally) -> Result<(), String>
         wrong[RECIPE_LIMIT - 1] = store.chunks();
         rebuild(store, &wrong, job.len(), CHUNK_NUMBER, tally)?;
         rebuild(store, &wrong, 10, CHUNK_NUMBER, tally)?;
-        let last = [RECIPE_LIMIT - 1, chunk - 1];
-        for (held, refusal) in [
-            (last, ACCEPTED),
-            ([last[0], chunk], HELD_PLACE),
-            ([RECIPE_LIMIT, 0], ACCEPTED),
-            ([RECIPE_LIMIT, 1], HELD_PLACE),
-            ([RECIPE_LIMIT + 1, 0], HELD_PLACE),
-        ] {
-            span(store, &after.recipe, held, 5, refusal, tally)?;
-        }
     }
     Ok(())
 }
@@ -160,7 +120,7 @@ fn longest_recipes(random: &mut Random, tally: &mut Tally) -> Result<(), String>
 fn least_saving(tally: &mut Tally) -> Result<(), String> {
     let chunk = |i: usize| [i % 128 + 128, i / 128 % 128, i / 16_384].map(|byte| byte as u8);
     let job: Vec<u8> = (0..RECIPE_LIMIT).flat_map(chunk).collect();
-    let fresh = Store::new([2, 0, 0, 0], &used(job.len()), &used(DIRECTORY_LIMIT));
+    let fresh = Store::new([2, 0, 0], &used(job.len()), &used(DIRECTORY_LIMIT));
     let after = take(&fresh, RECIPE_LIMIT, &job, ACCEPTED, tally)?;
     let (saving, cuts) = (after.saving[0], after.cuts_by_value());
     let (least, most) = (-147_456, [0, 0, RECIPE_LIMIT as u64]);
@@ -183,12 +143,10 @@ fn longest_pools(random: &mut Random, tally: &mut Tally) -> Result<(), String> {
     take(&full, 3, &job, POOL_FULL, tally)?;
     look(&full, last as u32, ACCEPTED, tally)?;
     rebuild(&full, &recipe, 2 * length, ACCEPTED, tally)?;
-    close(&full, OPEN_REBUILDINGS, tally)?;
     let over = Store::of_chunks(WINDOW_LIMIT, &chunks, &[0], &used(4));
     take(&over, 3, &job, MEMORY_LIMIT, tally)?;
     look(&over, last as u32, MEMORY_LIMIT, tally)?;
     rebuild(&over, &recipe, 2 * length, MEMORY_LIMIT, tally)?;
-    close(&over, MEMORY_LIMIT, tally)?;
     let mut roomy = full;
     for (spare, refusal) in [(job.len() - 1, POOL_FULL), (job.len(), ACCEPTED)] {
         roomy.head[2] = (POOL_LIMIT - spare) as u32;
@@ -215,13 +173,11 @@ fn longest_directories(random: &mut Random, tally: &mut Tally) -> Result<(), Str
     look(&full, 65_534, ACCEPTED, tally)?;
     look(&full, 65_535, CHUNK_NUMBER, tally)?;
     rebuild(&full, &[65_534, 0], 4, ACCEPTED, tally)?;
-    close(&full, OPEN_REBUILDINGS, tally)?;
     for more in [1, 2] {
         let over = Store::of_chunks(1, &chunks, &used(20), &used(more));
         take(&over, 5, &one_new, MEMORY_LIMIT, tally)?;
         look(&over, 0, MEMORY_LIMIT, tally)?;
         rebuild(&over, &[0], 4, MEMORY_LIMIT, tally)?;
-        close(&over, MEMORY_LIMIT, tally)?;
     }
     Ok(())
 }
@@ -281,50 +237,28 @@ fn longest_chunks(tally: &mut Tally) -> Result<(), String> {
     if fed != expected.concat() {
         return Err(format!("The feeds of the longest chunk give {fed:?}."));
     }
-    let fresh = Store::new([WINDOW_LIMIT, 0, 0, 0], &used(2 * longest), &used(4));
+    let fresh = Store::new([WINDOW_LIMIT, 0, 0], &used(2 * longest), &used(4));
     let after = take(&fresh, 2, &job, ACCEPTED, tally)?;
     rebuild(&after.store, &[1, 0], job.len() + 1, ACCEPTED, tally)?;
-    let last = longest - 1;
-    span(&after.store, &[1, 0], [0, last], longest, ACCEPTED, tally)?;
-    span(&after.store, &[1, 0], [0, longest], 9, HELD_PLACE, tally)?;
     take(&fresh, 1, &job, RECIPE_FULL, tally)?;
-    let tight = Store::new([WINDOW_LIMIT, 0, 0, 0], &used(2 * longest - 1), &used(4));
+    let tight = Store::new([WINDOW_LIMIT, 0, 0], &used(2 * longest - 1), &used(4));
     take(&tight, 2, &job, POOL_FULL, tally)?;
     Ok(())
 }
 
-/// The longest rebuilt job and its last byte, and the end of a forged store that is 0 in 32 bits.
+/// The longest rebuilt job, and the end of a forged store that is 0 in 32 bits.
 fn largest_sums(tally: &mut Tally) -> Result<(), String> {
     let longest = longest_chunk(WINDOW_LIMIT) as usize;
     let store = Store::of_chunks(WINDOW_LIMIT, &[used(longest)], &[], &[]);
-    let recipe = vec![0; RECIPE_LIMIT];
-    rebuild(&store, &recipe, 40, OUTPUT_SHORT, tally)?;
-    let last = [RECIPE_LIMIT - 1, longest - 1];
-    span(&store, &recipe, last, 40, ACCEPTED, tally)?;
+    rebuild(&store, &vec![0; RECIPE_LIMIT], 40, OUTPUT_SHORT, tally)?;
     let length: usize = 1 << 17;
     let count = (1 << 32) / length;
     let directory: Vec<u32> = (0..count)
         .flat_map(|entry| [(entry * length) as u32, length as u32])
         .collect();
-    let wrapped = Store::new([WINDOW_LIMIT, count as u32, 0, 0], &used(40), &directory);
+    let wrapped = Store::new([WINDOW_LIMIT, count as u32, 0], &used(40), &directory);
     take(&wrapped, 4, &[1, 2, 3], HEAD, tally)?;
     look(&wrapped, 0, HEAD, tally)?;
     rebuild(&wrapped, &[0], 40, HEAD, tally)?;
-    close(&wrapped, HEAD, tally)?;
-    Ok(())
-}
-
-/// Openings with one store up to the limit and past it, then closings until none is open and past that.
-fn most_open(tally: &mut Tally) -> Result<(), String> {
-    let mut store = Store::of_chunks(1, &[used(2)], &[], &[]);
-    for _ in 0..OPEN_LIMIT {
-        store = expect(&RebuildOpen::new(&store, &[0]), ACCEPTED, tally)?.store;
-    }
-    expect(&RebuildOpen::new(&store, &[0]), OPEN_REBUILDINGS, tally)?;
-    take(&store, 1, &used(2), ACCEPTED, tally)?;
-    for _ in 0..OPEN_LIMIT {
-        store = close(&store, ACCEPTED, tally)?.store;
-    }
-    close(&store, OPEN_REBUILDINGS, tally)?;
     Ok(())
 }

@@ -98,7 +98,7 @@ fn print_runs<T: PartialEq + fmt::Display + fmt::UpperHex>(
     Ok(())
 }
 
-/// A store: head (window, chunks, filled, open), pool, directory and index.
+/// A store: head (window, chunks, filled), pool, directory and index.
 #[derive(Clone, PartialEq, Eq, Debug)]
 pub struct Store {
     pub head: Lent<u32>,
@@ -109,7 +109,7 @@ pub struct Store {
 
 impl Store {
     /// A store of these three with a fresh index.
-    pub fn new(head: [u32; 4], pool: &[u8], directory: &[u32]) -> Self {
+    pub fn new(head: [u32; 3], pool: &[u8], directory: &[u32]) -> Self {
         Store {
             head: Lent::new(&head),
             pool: Lent::new(pool),
@@ -132,7 +132,7 @@ impl Store {
             directory.extend([pool.len() as u32, chunk.len() as u32]);
             pool.extend_from_slice(chunk);
         }
-        let head = [window, chunks.len() as u32, pool.len() as u32, 0];
+        let head = [window, chunks.len() as u32, pool.len() as u32];
         pool.extend_from_slice(spare_pool);
         directory.extend_from_slice(spare_directory);
         Store::new(head, &pool, &directory).indexed()
@@ -154,13 +154,5 @@ impl Store {
     pub fn chunk(&self, number: usize) -> &[u8] {
         let (offset, length) = (self.directory[2 * number], self.directory[2 * number + 1]);
         &self.pool[offset as usize..][..length as usize]
-    }
-
-    /// The sum of the lengths that the directory tells for these numbers, those left out that are too
-    /// large. The head need not fit.
-    pub fn told_length(&self, recipe: &[u32]) -> usize {
-        let length = |&number: &u32| self.directory.get(2 * number as usize + 1);
-        let lengths = recipe.iter().filter_map(length);
-        lengths.map(|&length| length as usize).sum()
     }
 }

@@ -67,7 +67,7 @@ impl FedAndQuoted {
         let lengths = self.others.iter().map(|other| other.len());
         let length = job.len() + lengths.sum::<usize>();
         let entries = Room::enough(window, length).entries + self.others.len();
-        let fresh = Store::new([window, 0, 0, 0], &vec![7; length], &vec![7; 2 * entries]);
+        let fresh = Store::new([window, 0, 0], &vec![7; length], &vec![7; 2 * entries]);
         let mut store = fresh.clone();
         for other in self.others.iter().filter(|other| !other.is_empty()) {
             store = self.take(&store, other, tally)?.store;

@@ -169,7 +169,6 @@ fn example(jobs: &[(bool, &[u8])]) -> History {
         takes,
         job: Lent::new(job),
         recipe: Lent::new(&[9; 500]),
-        events: Vec::new(),
     });
     History {
         window: 1,

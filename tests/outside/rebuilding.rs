@@ -1,21 +1,15 @@
 //! Rebuildings of a short chunk that stands at every short distance from the end of the pool, of the
-//! job, or of both, so that a block which reaches past one of them is noticed; and spans that start and
-//! end anywhere in such a job.
+//! job, or of both, so that a block which reaches past one of them is noticed.
 
 use crate::memory::{Lent, Store};
 use crate::model::WINDOW_LIMIT;
-use crate::one_span::OneSpan;
 use crate::random::Random;
 use crate::shrink::hold;
-use crate::span_calls::Span;
 use crate::store_calls::Rebuild;
 use crate::tally::Tally;
 
 /// The longest chunk, and the longest distance.
 const LONGEST: usize = 50;
-
-/// How many spans each job is asked for.
-const SPANS: usize = 4;
 
 /// Rebuilds a chunk of each length, with a second one as long as the distance and, where only one of
 /// the ends is near, a third.
@@ -35,7 +29,7 @@ pub fn run(random: &mut Random, tally: &mut Tally) -> Result<(), String> {
 }
 
 /// Rebuilds chunks of a full pool, to an output that is just long enough and to one that has bytes to
-/// spare, and asks for spans from any place to an output of any length.
+/// spare.
 fn rebuild(
     random: &mut Random,
     chunks: &[Vec<u8>],
@@ -49,15 +43,7 @@ fn rebuild(
         .sum();
     for spare in [0, 9] {
         let output = Lent::new(&random.bytes(length + spare));
-        hold(&OneSpan(Rebuild::new(&store, recipe, &output)), tally)?;
-    }
-    for _ in 0..SPANS {
-        let place = random.below(recipe.len());
-        let offset = random.below(chunks[recipe[place] as usize].len());
-        let room = random.below(length + 9);
-        let output = random.bytes(room);
-        let held = [place, offset].map(|number| number as u32);
-        hold(&Span::new(&store, recipe, &held, &output), tally)?;
+        hold(&Rebuild::new(&store, recipe, &output), tally)?;
     }
     Ok(())
 }

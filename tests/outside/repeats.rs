@@ -142,7 +142,7 @@ fn longest_job(
         seen += usize::from(new);
         job.extend(chunk(if new { seen - 1 } else { random.below(seen) }));
     }
-    let needed = Room::needed(&Store::new([1, 0, 0, 0], &[], &[]), &job);
+    let needed = Room::needed(&Store::new([1, 0, 0], &[], &[]), &job);
     if (needed.places, needed.entries) != (RECIPE_LIMIT, seen) || job.len() < 70_000 {
         return Err(format!("{} bytes need {needed:?}.", job.len()));
     }
@@ -156,6 +156,6 @@ fn take_longest(
     room: Room,
     tally: &mut Tally,
 ) -> Result<(), String> {
-    let fresh = Store::new([1, 0, 0, 0], &[], &[]);
+    let fresh = Store::new([1, 0, 0], &[], &[]);
     hold(&Roomy(room.lend(random, &fresh, job)), tally)
 }

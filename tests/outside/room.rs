@@ -176,7 +176,7 @@ pub fn run(random: &mut Random, tally: &mut Tally) -> Result<(), String> {
                 }
             })
             .collect();
-        let fresh = Store::new([window, 0, 0, 0], &[], &[]);
+        let fresh = Store::new([window, 0, 0], &[], &[]);
         let (needed, enough) = (Room::needed(&fresh, &job), Room::enough(window, job.len()));
         if needed != enough {
             return Err(format!(

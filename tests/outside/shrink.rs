@@ -105,7 +105,7 @@ pub fn shorter<T: Copy + From<u8>>(memory: &Lent<T>) -> impl Iterator<Item = Len
     .map(|shorter| memory.first(shorter))
 }
 
-/// Stores with one chunk less, less pool, less directory, fewer open rebuildings or a simpler index.
+/// Stores with one chunk less, less pool, less directory or a simpler index.
 pub fn smaller_stores(store: &Store) -> impl Iterator<Item = Store> + '_ {
     let entries = (store.chunks() as usize).min(store.directory.len() / 2);
     let fewer = (0..entries).map(|number| without_chunk(store, number));
@@ -118,22 +118,10 @@ pub fn smaller_stores(store: &Store) -> impl Iterator<Item = Store> + '_ {
         directory,
         ..store.clone()
     });
-    let opens = lower(store.head[3]).map(|open| {
-        let mut smaller = store.clone();
-        smaller.head[3] = open;
-        smaller
-    });
     fewer
         .chain(pools)
         .chain(directories)
-        .chain(opens)
         .chain(simpler_indexes(store))
-}
-
-/// Numbers below this one.
-pub fn lower(number: u32) -> impl Iterator<Item = u32> {
-    let numbers = [0, number / 2, number.saturating_sub(1)];
-    numbers.into_iter().filter(move |&lower| lower < number)
 }
 
 /// The index without the links of the entries that a directory of this length has no longer.
@@ -188,7 +176,6 @@ fn without_chunk(store: &Store, number: usize) -> Store {
         store.head[0],
         store.head[1] - 1,
         store.head[2].wrapping_sub(length),
-        store.head[3],
     ];
     Store {
         index: index_without(store, number),

@@ -19,7 +19,7 @@ impl StoreOpen {
     pub fn new(window: u32) -> Self {
         StoreOpen {
             window,
-            head: unwritten(4),
+            head: unwritten(3),
         }
     }
 }

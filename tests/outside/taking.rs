@@ -1,5 +1,4 @@
-//! Histories made at random: quotes and takes of new jobs and of revisions, rebuildings in spans between
-//! them, and memory that runs out.
+//! Histories made at random: quotes and takes of new jobs and of revisions, and memory that runs out.
 
 use crate::forging;
 use crate::history::{History, Step};
@@ -7,7 +6,6 @@ use crate::jobs;
 use crate::memory::Lent;
 use crate::random::Random;
 use crate::shrink::hold;
-use crate::span_events::Event;
 use crate::tally::{Operation, Tally};
 
 /// Checks histories until this many takes more are done.
@@ -65,6 +63,5 @@ fn step(random: &mut Random, history: &History) -> Step {
         takes: !random.once_in(3),
         recipe: forging::recipe(random, places),
         job: Lent::new(&job),
-        events: Event::random(random),
     }
 }

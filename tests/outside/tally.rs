@@ -2,7 +2,6 @@
 
 use crate::forged_index;
 use crate::model::{INDEX, INDEX_LENGTH};
-use crate::spanned::Spanned;
 use crate::told::Told;
 
 /// An operation of the library.
@@ -16,13 +15,10 @@ pub enum Operation {
     Take,
     Look,
     Rebuild,
-    RebuildOpen,
-    Span,
-    RebuildClose,
 }
 
 /// The operations, each with its name in the report and the grounds that it tests.
-const OPERATIONS: [(Operation, &str, &[u32]); 11] = [
+const OPERATIONS: [(Operation, &str, &[u32]); 8] = [
     (Operation::ScannerOpen, "scanner openings", &[1]),
     (Operation::Feed, "feeds", &[1, 2]),
     (Operation::Finish, "finishes", &[1, 2]),
@@ -31,17 +27,6 @@ const OPERATIONS: [(Operation, &str, &[u32]); 11] = [
     (Operation::Take, "takes", &[1, 3, 4, 5, 11, 12, 6, 7, 8]),
     (Operation::Look, "looks", &[1, 4, 5, 9]),
     (Operation::Rebuild, "rebuildings", &[1, 4, 5, 9, 10]),
-    (
-        Operation::RebuildOpen,
-        "rebuilding openings",
-        &[1, 4, 5, 9, 14],
-    ),
-    (Operation::Span, "spans", &[1, 4, 5, 9, 13]),
-    (
-        Operation::RebuildClose,
-        "rebuilding closings",
-        &[1, 4, 5, 14],
-    ),
 ];
 
 /// The names in the report of revisions that were quoted and of those that were taken.
@@ -65,13 +50,12 @@ const LEAST_NEAR: u64 = 50;
 /// those that were taken.
 #[derive(Default)]
 pub struct Tally {
-    outcomes: [[u64; 15]; OPERATIONS.len()],
+    outcomes: [[u64; 13]; 8],
     promises: [Promises; 2],
     fields: [[Fields; 5]; 2],
     indexes: [u64; forged_index::KINDS],
     higher_first: u64,
     pub told: Told,
-    pub spanned: Spanned,
 }
 
 /// Counts of the checks of demand 3.
@@ -164,7 +148,6 @@ impl Tally {
             println!();
         }
         self.told.print();
-        self.spanned.print();
         for (count, (kind, refusal, _)) in self.indexes.iter().zip(&forged_index::ALL) {
             println!("indexes {kind}: {count}, refusal {refusal}");
         }
@@ -190,7 +173,6 @@ impl Tally {
             (self.calls(Operation::Feed), 1_000_000, "feeds"),
             (self.calls(Operation::Quote), 100_000, "quotes"),
             (self.calls(Operation::Take), 100_000, "takes"),
-            (self.calls(Operation::Span), 100_000, "spans"),
         ];
         for (count, least, name) in totals {
             if count < least {
@@ -200,7 +182,6 @@ impl Tally {
         self.revision_shortfall()?;
         self.index_shortfall()?;
         self.told.shortfall()?;
-        self.spanned.shortfall()?;
         for (operation, name, grounds) in OPERATIONS {
             for &ground in [0].iter().chain(grounds) {
                 let count = self.outcomes[operation as usize][ground as usize];

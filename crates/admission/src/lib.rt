@@ -80,12 +80,10 @@ fn head_after(head: Head, progress: Progress) -> Head
 {
     let chunks = progress.chunks;
     let filled = progress.filled;
-    let open = head.open;
     Head {
         window: head.window,
         chunks,
         filled,
-        open,
     }
 }
 

@@ -8,7 +8,7 @@ mod fours;
 use directory::PoolOffset;
 
 // Writes bytes to a place, one by one.
-pub fn copy_bytes(memory: &mut [u8], at: usize, bytes: &[u8])
+fn copy_bytes(memory: &mut [u8], at: usize, bytes: &[u8])
     requires { at + length bytes.now ≤ length memory.old }
     ensures { memory.new ≡ written memory.old at bytes.now }
 {

@@ -6,7 +6,7 @@ use store::ChunkNumber;
 
 // Opens a store. Refused by ground 1, with all zeros.
 #[unsafe(no_mangle)]
-pub extern "C" fn hirunvel_store_open(window: u32, head: &mut [u32; 4]) -> u32
+pub extern "C" fn hirunvel_store_open(window: u32, head: &mut [u32; 3]) -> u32
     ensures { record { refusal = result; head = head.new } ≡ store_opened window }
 {
     let answer = store::open(window);
@@ -19,7 +19,7 @@ pub extern "C" fn hirunvel_store_open(window: u32, head: &mut [u32; 4]) -> u32
 // only the recipe. Refused by grounds 1, 3 to 8, 11 and 12, with zeros told.
 #[unsafe(no_mangle)]
 pub extern "C" fn hirunvel_store_quote(
-    head: &[u32; 4],
+    head: &[u32; 3],
     pool: &[u8],
     directory: &[u32],
     index: &[u32],
@@ -47,7 +47,7 @@ pub extern "C" fn hirunvel_store_quote(
 // pool, directory and index untouched and zeros told.
 #[unsafe(no_mangle)]
 pub extern "C" fn hirunvel_store_take(
-    head: &mut [u32; 4],
+    head: &mut [u32; 3],
     pool: &mut [u8],
     directory: &mut [u32],
     index: &mut [u32],
@@ -83,7 +83,7 @@ pub extern "C" fn hirunvel_store_take(
 // told.
 #[unsafe(no_mangle)]
 pub extern "C" fn hirunvel_store_look(
-    head: &[u32; 4],
+    head: &[u32; 3],
     pool: &[u8],
     directory: &[u32],
     number: u32,

@@ -1,4 +1,3 @@
--- Scanning, Storing and Rebuilding say which numbers stand for a scanner, a head, an answer and a held place.
+-- Scanning and Storing say which numbers stand for a scanner, a head and an answer.
 pub mod Scanning
 pub mod Storing
-pub mod Rebuilding

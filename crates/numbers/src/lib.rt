@@ -1,12 +1,10 @@
-// Scanners, heads, held places and answers as the numbers that C hands in and gets back. The layer below the library for C.
+// Scanners, heads and answers as the numbers that C hands in and gets back. The layer below the library for C.
 ghost use Rattle.std.specs.Prelude.{◌≡◌};
 ghost use Rattle.refusal.specs.Number.{number_of};
 
-mod rebuilding;
 mod scanning;
 mod storing;
 
-pub use rebuilding::{held_of, of_held};
 use refusal::Refusal;
 pub use scanning::{of_fed, of_scanner, scanner_of, unsound, untouched};
 pub use storing::{head_of, of_counts, of_head};

@@ -3,15 +3,15 @@ ghost use Rattle.std.specs.Prelude.{◌≡◌};
 ghost use Rattle.numbers.specs.Storing.{head_of, head_numbers, counts_of};
 
 use admission::Quoted;
-use store::{ChunkNumber, Head, OpenRebuildings, PoolOffset};
+use store::{ChunkNumber, Head, PoolOffset};
 
-// A head's window, chunks, filled and open rebuildings.
-pub type HeadNumbers = [u32; 4];
+// A head's window, chunks and filled.
+pub type HeadNumbers = [u32; 3];
 
 // A quote's recipe length, new bytes and repeated bytes, and its cuts of low, printable and high values.
 pub type Counts = [u64; 6];
 
-// The head of four numbers.
+// The head of three numbers.
 pub fn head_of(numbers: HeadNumbers) -> Head
     ensures { result ≡ head_of numbers }
 {
@@ -19,7 +19,6 @@ pub fn head_of(numbers: HeadNumbers) -> Head
         window: numbers[0],
         chunks: ChunkNumber(numbers[1]),
         filled: PoolOffset(numbers[2]),
-        open: OpenRebuildings(numbers[3]),
     }
 }
 
@@ -29,8 +28,7 @@ pub fn of_head(head: Head) -> HeadNumbers
 {
     let chunks = head.chunks;
     let filled = head.filled;
-    let open = head.open;
-    [head.window, chunks.0, filled.0, open.0]
+    [head.window, chunks.0, filled.0]
 }
 
 // The counts of a quote.

@@ -5,9 +5,6 @@ pub mod CutCounts
 pub mod NumbersStay
 pub mod IndexStays
 pub mod GivesBack
-pub mod Spans
-pub mod OpenCount
-pub mod SpansWhileTaking
 pub mod SeveralFields
 pub mod Promise
 pub mod LastField
@@ -20,5 +17,4 @@ pub mod FieldWitnesses
 pub mod FieldPremises
 pub mod EqualTail
 pub mod Calls
-pub mod SpanCalls
 pub mod FeedCalls

@@ -5,12 +5,12 @@ use Rattle.chunker.specs.Chunks.{chunks}
 use Rattle.cut_counts.specs.CutCounts.{cut_counts}
 use Rattle.directory.specs.Entry.{entries}
 use Rattle.index.specs.Index.{fresh_index}
-use Rattle.promises.specs.History.{Event, quoting, taking, reading, opening, spanning, closing, event_at}
+use Rattle.promises.specs.History.{Event, quoting, taking, reading, event_at}
 use Rattle.promises.specs.FirstAppearances.{FirstAppearances}
 use Rattle.promises.specs.Saving.{job_saving}
 use Rattle.promises.specs.Promise.{Promised}
 use Rattle.hirunvel.specs.Storing.{StoreQuotation, StoreTaking, store_opened, store_quoted, store_taken}
-use Rattle.hirunvel.specs.Rebuilding.{JobRebuilding, RebuildOpening, RebuildSpanning, RebuildClosing, job_rebuilt, rebuild_opened, rebuild_spanned, rebuild_closed}
+use Rattle.hirunvel.specs.Rebuilding.{JobRebuilding, job_rebuilt}
 
 -- what a C program keeps of a store
 pub record Memory : Type 0 where
@@ -36,39 +36,19 @@ take_call m job recipe = store_taken m.head m.pool m.directory m.index recipe jo
 abbrev pub told_by : StoreTaking → StoreQuotation
 told_by t = record { refusal = t.refusal; recipe = t.recipe; counts = t.counts; saving = t.saving }
 
--- a call of hirunvel_rebuild_open, of hirunvel_rebuild_span and of hirunvel_rebuild_close
-abbrev pub open_call : Memory → List ℕ → RebuildOpening
-open_call m recipe = rebuild_opened m.head m.pool m.directory recipe
-
-abbrev pub span_call : Memory → List ℕ → List ℕ → List ℕ → RebuildSpanning
-span_call m recipe held output = rebuild_spanned m.head m.pool m.directory recipe held output
-
-abbrev pub close_call : Memory → RebuildClosing
-close_call m = rebuild_closed m.head m.pool m.directory
-
--- memory with another head
-abbrev pub with_head : Memory → List ℕ → Memory
-with_head m head = record { head = head; pool = m.pool; directory = m.directory; index = m.index }
-
--- what a call leaves; hirunvel_store_quote, hirunvel_store_look, hirunvel_rebuild and hirunvel_rebuild_span write none of it
+-- what a call leaves; hirunvel_store_quote, hirunvel_store_look and hirunvel_rebuild write none of it
 unfoldable pub leaves : Memory → Event → Memory
 leaves m (quoting job recipe) = m
 leaves m (taking job recipe) =
     let t = take_call m job recipe in
     record { head = t.head; pool = t.pool; directory = t.directory; index = t.index }
 leaves m reading = m
-leaves m (opening recipe) = with_head m (open_call m recipe).head
-leaves m (spanning recipe held output) = m
-leaves m closing = with_head m (close_call m).head
 
 -- the chunks of a job whose take returns 0
 abbrev pub chunks_of : ℕ → Memory → Event → List (List ℕ)
 chunks_of w m (quoting job recipe) = []
 chunks_of w m (taking job recipe) = cond (eqb (take_call m job recipe).refusal 0) (chunks w job) []
 chunks_of w m reading = []
-chunks_of w m (opening recipe) = []
-chunks_of w m (spanning recipe held output) = []
-chunks_of w m closing = []
 
 module _ (m : Memory) (calls : List Event) where
   -- what the program has before a call, counted from 0

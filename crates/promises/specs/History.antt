@@ -11,25 +11,14 @@ use Rattle.store.specs.Opening.{fresh}
 use Rattle.index.specs.Index.{fresh_index}
 use Rattle.admission.specs.Quote.{Quotation, quoted}
 use Rattle.admission.specs.Take.{Taking, quotation_of, taken}
-use Rattle.spans.specs.declared.HeldPlace.{HeldPlace}
-use Rattle.spans.specs.declared.Opened.{Opened}
-use Rattle.spans.specs.declared.Closed.{Closed}
-use Rattle.spans.specs.Opening.{opened, closed}
-use Rattle.spans.specs.Span.{Spanning, spanned}
 
 pub data Event : Type 0 where
   -- a job is quoted, and lent memory for its recipe
   quoting : (job recipe : List ℕ) → Event
   -- a job is taken, and lent memory for its recipe
   taking : (job recipe : List ℕ) → Event
-  -- a look or a whole rebuilding, which writes neither head nor pool nor directory nor index
+  -- a look or a rebuilding, which writes neither head nor pool nor directory nor index
   reading : Event
-  -- the rebuilding of a recipe is opened
-  opening : (recipe : List ℕ) → Event
-  -- a span of it is given from a held place, and lent an output
-  spanning : (recipe : List ℕ) (held : HeldPlace) (output : List ℕ) → Event
-  -- a rebuilding is closed
-  closing : Event
 
 pub record State : Type 0 where
   pub head : Head
@@ -54,48 +43,25 @@ quote_in s job recipe = quoted s.head s.pool s.directory s.index recipe job
 abbrev pub take_in : State → List ℕ → List ℕ → Taking
 take_in s job recipe = taken s.head s.pool s.directory s.index recipe job
 
--- an opening in a state, a span and a closing
-abbrev pub open_in : State → List ℕ → Opened
-open_in s recipe = opened s.head s.pool s.directory recipe
-
-abbrev pub span_in : State → List ℕ → HeldPlace → List ℕ → Spanning
-span_in s recipe held output = spanned s.head s.pool s.directory recipe held output
-
-abbrev pub close_in : State → Closed
-close_in s = closed s.head s.pool s.directory
-
--- a state with another head
-abbrev pub with_head : State → Head → State
-with_head s head = record { head = head; pool = s.pool; directory = s.directory; index = s.index }
-
--- the state that an event leaves; a quote writes only the recipe, a span only its output
+-- the state that an event leaves; a quote writes only the recipe
 unfoldable pub leaves : State → Event → State
 leaves s (quoting job recipe) = s
 leaves s (taking job recipe) =
     let t = take_in s job recipe in
     record { head = t.answer.head; pool = t.pool; directory = t.directory; index = t.index }
 leaves s reading = s
-leaves s (opening recipe) = with_head s (open_in s recipe).head
-leaves s (spanning recipe held output) = s
-leaves s closing = with_head s (close_in s).head
 
 -- "Only a take that reports no refusal makes a job accepted; a quote alone never does"
 abbrev pub accepts : State → Event → Bool
 accepts s (quoting job recipe) = false
 accepts s (taking job recipe) = accepted (take_in s job recipe).answer.quoted.refusal
 accepts s reading = false
-accepts s (opening recipe) = false
-accepts s (spanning recipe held output) = false
-accepts s closing = false
 
 -- the chunks of an event's job
 abbrev pub chunks_of : ℕ → Event → List (List ℕ)
 chunks_of w (quoting job recipe) = chunks w job
 chunks_of w (taking job recipe) = chunks w job
 chunks_of w reading = []
-chunks_of w (opening recipe) = []
-chunks_of w (spanning recipe held output) = []
-chunks_of w closing = []
 
 -- the event at a place of a list, counted from 0; past the end nothing is written
 abbrev pub event_at : List Event → ℕ → Event
@@ -137,9 +103,6 @@ abbrev pub BytesIn : Event → Type 0
 BytesIn (quoting job recipe) = Bytes job
 BytesIn (taking job recipe) = Bytes job
 BytesIn reading = Unit {0}
-BytesIn (opening recipe) = Unit {0}
-BytesIn (spanning recipe held output) = Unit {0}
-BytesIn closing = Unit {0}
 
 -- the job of every event is
 abbrev pub AllBytes : List Event → Type 0

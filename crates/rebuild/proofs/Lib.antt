@@ -1,3 +1,2 @@
--- laws/grounds has the grounds of a recipe that is read and of a rebuilding, test by test; the other laws serve the loops that count and
--- write.
+-- laws/grounds/RebuildGround has the grounds of a rebuilding, test by test; the other laws serve the loops that count and write.
 pub mod laws

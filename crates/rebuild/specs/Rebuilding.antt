@@ -11,35 +11,26 @@ use Rattle.store.specs.Memory.{chunk_at}
 use Rattle.store.specs.Grounds.{memory_ground, recipe_ground, head_ground, number_ground}
 use Rattle.rebuild.specs.declared.Rebuilt.{Rebuilt}
 
--- "The pieces that a recipe names"
-abbrev pub named : List ℕ → List ℕ → List ℕ → List (List ℕ)
-named pool directory recipe = map (chunk_at pool directory) recipe
-
--- .. laid end to end: "an empty recipe writes nothing"
+-- the chunks that a recipe names, laid end to end: "an empty recipe writes nothing"
 unfoldable pub rebuilt_bytes : List ℕ → List ℕ → List ℕ → List ℕ
-rebuilt_bytes pool directory recipe = joined (named pool directory recipe)
-
--- the first of the grounds 1, 4, 5 and 9 that holds of a store and a recipe that is read. Ground 4 is tested of the recipe
--- too, 9 of all its numbers
-unfoldable pub read_ground : Head → List ℕ → List ℕ → List ℕ → Refusal
-read_ground head pool directory recipe =
-    first
-    (window_ground head.window
-    ∷ recipe_ground recipe
-    ∷ memory_ground pool directory
-    ∷ head_ground head pool directory
-    ∷ number_ground head recipe
-    ∷ [])
+rebuilt_bytes pool directory recipe = joined (map (chunk_at pool directory) recipe)
 
 -- ground 10, "The output is shorter than the rebuilt job"
 abbrev pub output_ground : List ℕ → List ℕ → List ℕ → List ℕ → Refusal
 output_ground pool directory recipe output =
     unless (leb (length (rebuilt_bytes pool directory recipe)) (length output)) OutputShort
 
--- "rebuilding 1, 4, 5, 9 and 10": the first that holds
+-- "rebuilding 1, 4, 5, 9 and 10": the first that holds. Ground 4 is tested of the recipe too, 9 of all its numbers
 unfoldable pub rebuild_ground : Head → List ℕ → List ℕ → List ℕ → List ℕ → Refusal
 rebuild_ground head pool directory recipe output =
-    first (read_ground head pool directory recipe ∷ output_ground pool directory recipe output ∷ [])
+    first
+    (window_ground head.window
+    ∷ recipe_ground recipe
+    ∷ memory_ground pool directory
+    ∷ head_ground head pool directory
+    ∷ number_ground head recipe
+    ∷ output_ground pool directory recipe output
+    ∷ [])
 
 -- what a rebuilding answers, and how it leaves the output
 pub record Rebuilding : Type 0 where

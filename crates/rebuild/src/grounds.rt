@@ -1,7 +1,7 @@
 // The grounds on which a rebuilding is turned away.
 ghost use Rattle.std.specs.Prelude.{◌≡◌, true, ◌≤◌, length};
 ghost use Rattle.refusal.specs.Number.{accepted};
-ghost use Rattle.rebuild.specs.Rebuilding.{rebuilt_bytes, read_ground, rebuild_ground};
+ghost use Rattle.rebuild.specs.Rebuilding.{rebuilt_bytes, rebuild_ground};
 ghost use Rattle.rebuild.specs.internal.Located.{Located};
 ghost use Rattle.store.specs.Grounds.{all_below};
 ghost use Rattle.store.specs.Limits.{pool_limit, recipe_limit};
@@ -45,27 +45,6 @@ fn rebuilt_length(pool: &[u8], directory: &[u32], recipe: &[u32]) -> u64
     total
 }
 
-// The first of the grounds 1, 4, 5 and 9 that holds of a store and a recipe that is read, if any. A recipe over its limit is
-// ground 4, so it is tested before the store's grounds.
-pub fn read_ground(head: Head, pool: &[u8], directory: &[u32], recipe: &[u32]) -> Refusal
-    ensures { result ≡ read_ground head pool.now directory.now recipe.now }
-{
-    if !chunker::window_allowed(head.window) {
-        return Refusal::Window;
-    }
-    if !store::recipe_allowed(recipe) {
-        return Refusal::MemoryLimit;
-    }
-    let ground = store::store_ground(head, pool, directory);
-    if !refusal::accepted(ground) {
-        return ground;
-    }
-    if !all_below(head.chunks, recipe) {
-        return Refusal::ChunkNumber;
-    }
-    Refusal::Accepted
-}
-
 // The refusal of a rebuilding, and where there is none the rebuilt job's length.
 #[derive(Drop)]
 pub struct Tested {
@@ -73,7 +52,15 @@ pub struct Tested {
     pub total: u64,
 }
 
-// The first of the grounds 1, 4, 5, 9 and 10 that holds, if any.
+// A ground that holds, with no length.
+fn refused(refusal: Refusal) -> Tested
+    ensures { result ≡ record { refusal = refusal; total = 0 } }
+{
+    Tested { refusal, total: 0 }
+}
+
+// The first of the grounds 1, 4, 5, 9 and 10 that holds, if any. A recipe over its limit is ground 4, so it
+// is tested before the store's grounds.
 pub fn rebuild_ground(
     head: Head,
     pool: &[u8],
@@ -86,19 +73,22 @@ pub fn rebuild_ground(
     ensures counted { accepted result.refusal ≡ true
         → result.total ≡ length (rebuilt_bytes pool.now directory.now recipe.now) }
 {
-    let ground = read_ground(head, pool, directory, recipe);
+    if !chunker::window_allowed(head.window) {
+        return refused(Refusal::Window);
+    }
+    if !store::recipe_allowed(recipe) {
+        return refused(Refusal::MemoryLimit);
+    }
+    let ground = store::store_ground(head, pool, directory);
     if !refusal::accepted(ground) {
-        return Tested {
-            refusal: ground,
-            total: 0,
-        };
+        return refused(ground);
+    }
+    if !all_below(head.chunks, recipe) {
+        return refused(Refusal::ChunkNumber);
     }
     let total = rebuilt_length(pool, directory, recipe);
     if (output.len() as u64) < total {
-        return Tested {
-            refusal: Refusal::OutputShort,
-            total: 0,
-        };
+        return refused(Refusal::OutputShort);
     }
     Tested {
         refusal: Refusal::Accepted,

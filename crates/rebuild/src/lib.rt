@@ -6,7 +6,6 @@ ghost use Rattle.rebuild.specs.internal.Located.{Located};
 mod grounds;
 
 use directory::STRIDE;
-pub use grounds::read_ground;
 use refusal::Refusal;
 use store::{ChunkNumber, Head, PoolOffset};
 

@@ -2,7 +2,7 @@
 use Rattle.std.specs.Prelude.{ℕ, Bool, eqb}
 use Rattle.refusal.specs.declared.Refusal.{Refusal}
 use Rattle.refusal.specs.declared.Refusal.TheVariants.{Accepted, Window, Unsound, JobLength, MemoryLimit, Head, RecipeFull, DirectoryFull, PoolFull, ChunkNumber, OutputShort}
-use Rattle.refusal.specs.declared.Refusal.TheVariants.{IndexLength, Index, HeldPlace, OpenRebuildings}
+use Rattle.refusal.specs.declared.Refusal.TheVariants.{IndexLength, Index}
 
 -- "The first ground that holds is reported": its number, and 0 where none holds
 abbrev pub number_of : Refusal → ℕ
@@ -19,8 +19,6 @@ number_of ChunkNumber = 9
 number_of OutputShort = 10
 number_of IndexLength = 11
 number_of Index = 12
-number_of HeldPlace = 13
-number_of OpenRebuildings = 14
 
 -- "where none holds the work is done"
 abbrev pub accepted : Refusal → Bool

@@ -30,10 +30,6 @@ pub enum Refusal {
     IndexLength,
     // 12: the index's chains do not meet every chunk just once under its own sum, and nothing else.
     Index,
-    // 13: the held place lies outside the recipe or its chunk.
-    HeldPlace,
-    // 14: opening would pass 65,535 open rebuildings, or closing finds none open.
-    OpenRebuildings,
 }
 
 // The paper's number of a ground; 0 where none holds.
@@ -54,8 +50,6 @@ pub fn number(refusal: Refusal) -> u8
         Refusal::OutputShort => 10,
         Refusal::IndexLength => 11,
         Refusal::Index => 12,
-        Refusal::HeldPlace => 13,
-        Refusal::OpenRebuildings => 14,
     }
 }
 

@@ -5,9 +5,9 @@ use Rattle.chunker.specs.Scanner.{window_allowed}
 use Rattle.store.specs.declared.Head.{Head}
 use Rattle.store.specs.declared.Opened.{Opened}
 
--- "A fresh head is w, 0, 0"; "The head gains a number of open rebuildings, 0 in a fresh store"
+-- "A fresh head is w, 0, 0"
 abbrev pub fresh : ℕ → Head
-fresh w = record { window = w; chunks = record { 0 = 0 }; filled = record { 0 = 0 }; «open» = record { 0 = 0 } }
+fresh w = record { window = w; chunks = record { 0 = 0 }; filled = record { 0 = 0 } }
 
 -- "Opening a store tests 1", "A refused opening gives all zeros"
 unfoldable pub opened : ℕ → Opened

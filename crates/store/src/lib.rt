@@ -22,17 +22,12 @@ pub const RECIPE_LIMIT: usize = 65535;
 #[derive(Drop)]
 pub struct JobPosition(pub u32);
 
-// How many rebuildings in spans are open.
-#[derive(Drop)]
-pub struct OpenRebuildings(pub u32);
-
-// The window, the number that the next new chunk gets, where its bytes go, and how many rebuildings are open.
+// The window, the number that the next new chunk gets, and where its bytes go.
 #[derive(Drop)]
 pub struct Head {
     pub window: u32,
     pub chunks: ChunkNumber,
     pub filled: PoolOffset,
-    pub open: OpenRebuildings,
 }
 
 #[derive(Drop)]
@@ -56,7 +51,6 @@ fn fresh(window: u32) -> Head
         window,
         chunks: ChunkNumber(0),
         filled: PoolOffset(0),
-        open: OpenRebuildings(0),
     }
 }
 

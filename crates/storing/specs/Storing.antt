@@ -24,14 +24,13 @@ directory_with head directory new = written directory (head.chunks.0 * stride) (
 abbrev pub index_with : Head → List ℕ → List (List ℕ) → List ℕ
 index_with head index new = enter_all index head.chunks.0 new
 
--- the new head: the rebuildings that are open stay so
+-- the new head
 abbrev pub head_with : Head → List (List ℕ) → Head
 head_with head new =
     record {
       window = head.window;
       chunks = record { 0 = head.chunks.0 + length new };
       filled = record { 0 = head.filled.0 + total new };
-      «open» = head.«open»;
     }
 
 -- pool, directory and index

@@ -5,7 +5,6 @@
 pub mod chunks;
 pub mod index;
 pub mod scanner;
-pub mod spans;
 pub mod store;
 
 /// No ground holds: the work is done.
@@ -34,10 +33,6 @@ pub const OUTPUT_SHORT: u32 = 10;
 pub const INDEX_LENGTH: u32 = 11;
 /// The index's chains do not meet every chunk just once under its own sum, and nothing else.
 pub const INDEX: u32 = 12;
-/// The held place lies outside the recipe or its chunk.
-pub const HELD_PLACE: u32 = 13;
-/// Opening would pass `OPEN_LIMIT` open rebuildings, or closing finds none open.
-pub const OPEN_REBUILDINGS: u32 = 14;
 
 /// The largest window.
 pub const WINDOW_LIMIT: u32 = 64;
@@ -49,8 +44,6 @@ pub const POOL_LIMIT: usize = 67_108_864;
 pub const DIRECTORY_LIMIT: usize = 131_070;
 /// The most numbers of a recipe.
 pub const RECIPE_LIMIT: usize = 65_535;
-/// The most open rebuildings.
-pub const OPEN_LIMIT: u64 = 65_535;
 
 /// The chains of an index.
 pub const CHAINS: usize = 1_024;

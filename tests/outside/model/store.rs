@@ -8,7 +8,7 @@ use std::collections::HashMap;
 /// Opens a store.
 pub fn open(window: u32, head: &mut [u32]) -> u32 {
     if window_accepted(window) {
-        head.copy_from_slice(&[window, 0, 0, 0]);
+        head.copy_from_slice(&[window, 0, 0]);
         ACCEPTED
     } else {
         head.fill(0);
@@ -223,7 +223,7 @@ fn job_ground(store: &Store, recipe: &[u32], job: &[u8]) -> u32 {
 
 /// The ground on which a call that names chunks is refused: it is lent this recipe and names these
 /// numbers.
-pub fn reading_ground(store: &Store, recipe: &[u32], numbers: &[u32]) -> u32 {
+fn reading_ground(store: &Store, recipe: &[u32], numbers: &[u32]) -> u32 {
     if !window_accepted(store.head[0]) {
         WINDOW
     } else if over_limit(store, recipe) {

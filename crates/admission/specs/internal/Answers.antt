@@ -28,4 +28,4 @@ answered job_length refusal p cuts = cond (accepted refusal) (counted_by job_len
 
 -- the next chunk number and pool offset as a head
 abbrev pub head_after : Head → Progress → Head
-head_after head p = record { window = head.window; chunks = p.chunks; filled = p.filled; «open» = head.«open» }
+head_after head p = record { window = head.window; chunks = p.chunks; filled = p.filled }

@@ -29,8 +29,7 @@ use Rattle.admission.specs.Quote.{Quotation, recipe_of}
 use Rattle.admission.proofs.laws.Asked.{Asked, passed, asked, chunks_few}
 use Rattle.admission.proofs.laws.Takes.{adds, untouched}
 use Rattle.admission.proofs.theorems.QuoteAndTake.{same_quotation, same_refusal}
-use Rattle.spans.specs.Opening.{head_with, open_ground, close_ground, opened, closed}
-use Rattle.promises.specs.History.{Event, quoting, taking, reading, opening, spanning, closing, State, start, holds, quote_in, open_in, close_in, with_head, leaves, accepts, chunks_of, event_at}
+use Rattle.promises.specs.History.{Event, quoting, taking, reading, State, start, holds, quote_in, leaves, accepts, chunks_of, event_at}
 use Rattle.promises.specs.History.{before, chunks_before, Takes, takes, Asks, by_quote, by_take, TakenAt, AskedAt, BytesIn, AllBytes}
 
 -- head and index fit pool and directory: none of the grounds 5, 11 and 12 holds
@@ -130,47 +129,12 @@ grows_take s f job recipe b = step (accepts s (taking job recipe)) refl
         let left = same_state s (leaves s (taking job recipe)) (cc) (cc) (cc) (cc) in
         rw left (grows_none s f)
 
--- another number of open rebuildings changes nothing else
-grows_open : (s : State) → Fitting s → (n : ℕ) → Grows s (with_head s (head_with s.head n)) []
-unfolding grown fits
-grows_open s f n =
-    record {
-      fitting = record { head = f.head; index_length = f.index_length; indexed = f.indexed };
-      window = refl;
-      held = refl;
-      pool_length = refl;
-      directory_length = refl;
-      in_order = λ first e. e;
-    }
-
--- an opening and a closing leave the head, or change that number
-grows_opening : (s : State) → Fitting s → (recipe : List ℕ) → Grows s (with_head s (open_in s recipe).head) []
-unfolding opened
-grows_opening s f recipe = by_test (accepted (open_ground s.head s.pool s.directory recipe)) refl
-  where
-    by_test : (t : Bool) → accepted (open_ground s.head s.pool s.directory recipe) ≡ t
-        → Grows s (with_head s (open_in s recipe).head) []
-    by_test true e = rw e (grows_open s f (s.head.«open».0 + 1))
-    by_test false e = rw e (grows_none s f)
-
-grows_closing : (s : State) → Fitting s → Grows s (with_head s (close_in s).head) []
-unfolding closed
-grows_closing s f = by_test (accepted (close_ground s.head s.pool s.directory)) refl
-  where
-    by_test : (t : Bool) → accepted (close_ground s.head s.pool s.directory) ≡ t
-        → Grows s (with_head s (close_in s).head) []
-    by_test true e = rw e (grows_open s f (s.head.«open».0 - 1))
-    by_test false e = rw e (grows_none s f)
-
 -- what each event adds
 grows_once : (s : State) → Fitting s → (e : Event) → BytesIn e → Grows s (leaves s e) (added_chunks s e)
 unfolding leaves
 grows_once s f (quoting job recipe) b = grows_none s f
 grows_once s f (taking job recipe) b = grows_take s f job recipe b
 grows_once s f reading b = grows_none s f
-grows_once s f (opening recipe) b = grows_opening s f recipe
-grows_once s f (spanning recipe held output) b = grows_none s f
-grows_once s f closing b = grows_closing s f
 
 -- the job of the event at each place is bytes
 pub bytes_in : (events : List Event) → AllBytes events → (j : ℕ) → BytesIn (event_at events j)

@@ -4,6 +4,7 @@ use Prim.Native.Nat.{ℕ, zero, suc}
 use mathlib.Core.Path.{◌≡◌, refl, ap, ◌∙◌}
 use mathlib.Core.Bool.{cond}
 use mathlib.Core.List.{List, [], ◌∷◌}
+use lib.ListN.{length}
 use Rattle.refusal.specs.Number.{accepted}
 use Rattle.refusal.specs.Grounds.{first}
 use Rattle.refusal.specs.declared.Refusal.{Refusal}
@@ -15,7 +16,7 @@ use Rattle.admission.specs.Quote.{Quotation, refused, walked, quoted}
 use Rattle.admission.specs.Take.{Taking, quotation_of, new_of, stores, refuses, taken}
 use Rattle.admission.proofs.theorems.QuoteAndTake.{same_quotation}
 use Rattle.promises.specs.History as history
-use Rattle.promises.specs.History.{Event, quoting, taking, reading, opening, spanning, closing, State, start, holds, quote_in, take_in, open_in, close_in, with_head, event_at, AllBytes}
+use Rattle.promises.specs.History.{Event, quoting, taking, reading, State, start, holds, quote_in, take_in, event_at, AllBytes}
 use Rattle.promises.proofs.laws.Events.{Fitting, grows, start_fits}
 
 -- the first of the grounds 1 and 3 to 5 that holds
@@ -51,9 +52,6 @@ leaves s (taking job recipe) =
     let t = take_of s job recipe in
     record { head = t.answer.head; pool = t.pool; directory = t.directory; index = t.index }
 leaves s reading = s
-leaves s (opening recipe) = with_head s (open_in s recipe).head
-leaves s (spanning recipe held output) = s
-leaves s closing = with_head s (close_in s).head
 
 -- the state before a place of a list
 unfoldable pub before : State → List Event → ℕ → State
@@ -80,9 +78,6 @@ module _ (s : State) (f : Fitting s) where
   same_leaves (quoting job recipe) = refl
   same_leaves (taking job recipe) = rw (same_take job recipe)
   same_leaves reading = refl
-  same_leaves (opening recipe) = refl
-  same_leaves (spanning recipe held output) = refl
-  same_leaves closing = refl
 
 -- what is told of a job that is quoted or taken before place j of a list from a fresh store
 abbrev pub told_at : ℕ → List ℕ → List ℕ → List Event → ℕ → List ℕ → List ℕ → Quotation

@@ -15,7 +15,7 @@ use Rattle.admission.specs.Quote.{Quotation}
 use Rattle.admission.proofs.laws.Takes.{untouched}
 use Rattle.admission.proofs.theorems.QuoteAndTake.{same_quotation, same_refusal}
 use Rattle.promises.specs.History as history
-use Rattle.promises.specs.History.{Event, quoting, taking, reading, opening, spanning, closing, State, start, event_at, quote_in, Takes, takes, Asks, by_quote, by_take}
+use Rattle.promises.specs.History.{Event, quoting, taking, reading, State, start, event_at, quote_in, Takes, takes, Asks, by_quote, by_take}
 use Rattle.promises.specs.History.{TakenAt, AskedAt, AllBytes}
 use Rattle.promises.proofs.laws.Fields.{old_joined, revision_joined}
 use Rattle.promises.specs.Fields.{Field, old_job, revision, AllKept, ceiling_of, joined}
@@ -29,9 +29,7 @@ use Rattle.promises.specs.IndexStays.{NotIndex}
 use Rattle.promises.proofs.theorems.IndexStays.{index_stays}
 use Rattle.numbers.specs.Storing.{head_of, head_numbers, counts_of}
 use Rattle.hirunvel.specs.Storing.{StoreQuotation, store_opened, store_quoted, store_taken}
-use Rattle.spans.specs.Opening as spans
-use Rattle.spans.specs.Opening.{open_ground, close_ground}
-use Rattle.hirunvel.specs.Rebuilding.{job_rebuilt, rebuild_opened, rebuild_closed}
+use Rattle.hirunvel.specs.Rebuilding.{job_rebuilt}
 use Rattle.promises.specs.Calls.{Memory, opened, quote_call, take_call, told_by, leaves, chunks_of, before, chunks_before, TakesCall, takes_call, AsksCall, quote_called, take_called}
 use Rattle.promises.specs.Calls.{TakenCall, AskedCall, recipe_of, charge_of, Counts, Saves, CountsCuts, GivesBack, rebuild, PromisedCalls}
 
@@ -64,22 +62,9 @@ asks_called take_called = (_, by_take, refl)
 
 -- a call leaves what the event leaves: "the head written is the head handed back"
 call_leaves : (s : State) → (e : Event) → leaves (memory_of s) e ≡ memory_of (history.leaves s e)
-unfolding leaves history.leaves store_taken rebuild_opened rebuild_closed spans.opened spans.closed
+unfolding leaves history.leaves store_taken
 call_leaves s (quoting job recipe) = refl
 call_leaves s reading = refl
-call_leaves s (spanning recipe held output) = refl
-call_leaves s (opening recipe) = by_test (accepted (open_ground s.head s.pool s.directory recipe)) refl
-  where
-    by_test : (t : Bool) → accepted (open_ground s.head s.pool s.directory recipe) ≡ t
-        → leaves (memory_of s) (opening recipe) ≡ memory_of (history.leaves s (opening recipe))
-    by_test true h = rw h refl
-    by_test false h = rw (h, h) refl
-call_leaves s closing = by_test (accepted (close_ground s.head s.pool s.directory)) refl
-  where
-    by_test : (t : Bool) → accepted (close_ground s.head s.pool s.directory) ≡ t
-        → leaves (memory_of s) closing ≡ memory_of (history.leaves s closing)
-    by_test true h = rw h refl
-    by_test false h = rw (h, h) refl
 call_leaves s (taking job recipe) = by_test (history.accepts s (taking job recipe)) refl
   where
     same : history.accepts s (taking job recipe) ≡ accepted (quote_in s job recipe).answer.refusal
@@ -122,7 +107,7 @@ module _ (w : ℕ) (allowed : (store_opened w).refusal ≡ 0) (pool directory : 
       ap (λ n. leaves n (event_at calls i)) (calls_history i) ∙ call_leaves (history.before s calls i) (event_at calls i)
 
   -- a call that takes a job and returns 0 is a take that is not refused
-  pub taken_at : {i : ℕ} {job : List ℕ} {c : StoreQuotation} → TakenCall m calls i job c
+  taken_at : {i : ℕ} {job : List ℕ} {c : StoreQuotation} → TakenCall m calls i job c
       → (q : Quotation) × TakenAt s calls i job q × (c ≡ numbers_of q)
   taken_at {i} {job} {c} a =
       let t = takes_called (subst (λ n. TakesCall n (event_at calls i) job c) (calls_history i) a.stands) in
@@ -142,9 +127,6 @@ module _ (w : ℕ) (allowed : (store_opened w).refusal ≡ 0) (pool directory : 
   call_chunks t (quoting job recipe) = refl
   call_chunks t (taking job recipe) = refl
   call_chunks t reading = refl
-  call_chunks t (opening recipe) = refl
-  call_chunks t (spanning recipe held output) = refl
-  call_chunks t closing = refl
 
   -- the jobs that earlier calls took are those accepted before
   chunks_before_lem : (i : ℕ) → chunks_before m calls w i ≡ history.chunks_before s calls i
@@ -196,24 +178,24 @@ module _ (w : ℕ) (allowed : (store_opened w).refusal ≡ 0) (pool directory : 
       (promise w pool directory calls b i j l beginning replaced changed ending t.0 u.0 t.1 u.1 k kept)
 
   -- several changed fields: of each division into fields
-  pub several_fields_called : (i j : ℕ) → i < j → (beginning : List ℕ) (fields : List Field) (old new : StoreQuotation)
-      → TakenCall m calls i (old_job beginning fields) old → AskedCall m calls j (revision beginning fields) new
+  pub several_fields_called : (i j : ℕ) → i < j → (opening : List ℕ) (fields : List Field) (old new : StoreQuotation)
+      → TakenCall m calls i (old_job opening fields) old → AskedCall m calls j (revision opening fields) new
       → AllKept w fields → charge_of new ≤ ceiling_of w fields
-  several_fields_called i j l beginning fields old new taken asked kept =
+  several_fields_called i j l opening fields old new taken asked kept =
       let t = taken_at taken in
       let u = asked_at asked in
-      rw u.2 (several_fields w pool directory calls b i j l t.0 u.0 beginning fields t.1 u.1 kept)
+      rw u.2 (several_fields w pool directory calls b i j l t.0 u.0 opening fields t.1 u.1 kept)
 
   -- what lines up after the last of them
   pub last_field_called : (i j : ℕ) → i < j
-      → (beginning : List ℕ) (fields : List Field) (last : Field) (old new : StoreQuotation)
-      → TakenCall m calls i (old_job beginning (fields ++ (last ∷ []))) old
-      → AskedCall m calls j (revision beginning (fields ++ (last ∷ []))) new
+      → (opening : List ℕ) (fields : List Field) (last : Field) (old new : StoreQuotation)
+      → TakenCall m calls i (old_job opening (fields ++ (last ∷ []))) old
+      → AskedCall m calls j (revision opening (fields ++ (last ∷ []))) new
       → KeptMaximum w last.kept last.place
-      → PromisedCalls w beginning (joined fields last).replaced (joined fields last).changed last.kept last.place old new
-  last_field_called i j l beginning fields last old new taken asked kept =
-      promised i j l beginning (joined fields last).replaced (joined fields last).changed last.kept old new
-      (rw (old_joined beginning fields last) at taken) (rw (revision_joined beginning fields last) at asked) last.place kept
+      → PromisedCalls w opening (joined fields last).replaced (joined fields last).changed last.kept last.place old new
+  last_field_called i j l opening fields last old new taken asked kept =
+      promised i j l opening (joined fields last).replaced (joined fields last).changed last.kept old new
+      (rw (old_joined opening fields last) at taken) (rw (revision_joined opening fields last) at asked) last.place kept
 
   -- the index is never refused: whatever job is handed in after any of the calls, a quote and a take return neither 11 nor 12
   pub index_accepted : (j : ℕ) (job recipe : List ℕ)

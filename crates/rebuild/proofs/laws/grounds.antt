@@ -1,2 +1,1 @@
-pub mod ReadGround
 pub mod RebuildGround

@@ -4,7 +4,7 @@ use mathlib.Core.Bool.{true, true≢false}
 use Rattle.refusal.specs.Number.{accepted}
 use Rattle.refusal.specs.declared.Refusal.{Refusal}
 use Rattle.refusal.specs.declared.Refusal.TheVariants.{Accepted, Window, Unsound, JobLength, MemoryLimit, Head, RecipeFull, DirectoryFull, PoolFull, ChunkNumber, OutputShort}
-use Rattle.refusal.specs.declared.Refusal.TheVariants.{IndexLength, Index, HeldPlace, OpenRebuildings}
+use Rattle.refusal.specs.declared.Refusal.TheVariants.{IndexLength, Index}
 
 pub no_ground : (ground : Refusal) → accepted ground ≡ true → ground ≡ Accepted
 no_ground Accepted h = refl
@@ -20,5 +20,3 @@ no_ground ChunkNumber h = absurd (true≢false (sym h))
 no_ground OutputShort h = absurd (true≢false (sym h))
 no_ground IndexLength h = absurd (true≢false (sym h))
 no_ground Index h = absurd (true≢false (sym h))
-no_ground HeldPlace h = absurd (true≢false (sym h))
-no_ground OpenRebuildings h = absurd (true≢false (sym h))

@@ -27,8 +27,7 @@ use Rattle.storing.proofs.laws.Steps.{pool_none, directory_none, index_none, poo
 
 -- a head with this many chunks and bytes; no part of what is stored depends on the window
 abbrev pub head_of : ℕ → ℕ → Head
-head_of number filled =
-    record { window = 0; chunks = record { 0 = number }; filled = record { 0 = filled }; «open» = record { 0 = 0 } }
+head_of number filled = record { window = 0; chunks = record { 0 = number }; filled = record { 0 = filled } }
 
 -- the new chunks of the places from this one on, whose chunk starts at `end`
 abbrev pub left : List ℕ → List ℕ → ℕ → ℕ → ℕ → List (List ℕ)

@@ -76,7 +76,6 @@ head_after head size =
       window = head.window;
       chunks = record { 0 = head.chunks.0 + 1 };
       filled = record { 0 = head.filled.0 + size };
-      «open» = head.«open»;
     }
 
 -- pool, directory and index with a chunk written at the end of what the store holds

@@ -12,7 +12,7 @@ use Rattle.refusal.specs.Grounds.{unless, first}
 use Rattle.refusal.specs.declared.Refusal.{Refusal}
 use Rattle.refusal.specs.declared.Refusal.TheVariants.{Accepted, Window, Unsound, JobLength, MemoryLimit, Head}
 use Rattle.refusal.specs.declared.Refusal.TheVariants.{RecipeFull, DirectoryFull, PoolFull, ChunkNumber, OutputShort}
-use Rattle.refusal.specs.declared.Refusal.TheVariants.{IndexLength, Index, HeldPlace, OpenRebuildings}
+use Rattle.refusal.specs.declared.Refusal.TheVariants.{IndexLength, Index}
 use Rattle.chunker.specs.Chunks.{total}
 use Rattle.store.specs.Contents.{has, gain, grown, added}
 use Rattle.store.proofs.laws.contents.Additions.{grown_added, length_grown, total_append}
@@ -82,8 +82,6 @@ Lacks room count store ChunkNumber = Unit {0}
 Lacks room count store OutputShort = Unit {0}
 Lacks room count store IndexLength = Unit {0}
 Lacks room count store Index = Unit {0}
-Lacks room count store HeldPlace = Unit {0}
-Lacks room count store OpenRebuildings = Unit {0}
 
 -- a refused chunk has no room, and so they all have none
 module _ (room : Room) (used : ℕ) (held : List (List ℕ)) (c : List ℕ) (cs : List (List ℕ)) where
