@@ -1,5 +1,7 @@
 // Admission of a job to a store, in two operations: a quote tells what the job costs and writes only its recipe; a take
 // answers the same and stores the job's new chunks.
+#![tactic(auto)]
+
 ghost use Rattle.std.specs.Prelude.{◌≡◌, ◌≤◌};
 ghost use Rattle.store.specs.Limits.{job_limit};
 ghost use Rattle.admission.specs.Quote.{refused, quoted};
@@ -18,7 +20,7 @@ pub const JOB_LIMIT: usize = 16777216;
 
 // The recipe's length, the bytes of the new chunks and of the others, what the job saves on the link, and its cuts by the
 // values of their maximum points.
-#[derive(Drop)]
+#[derive(Clone, Copy)]
 pub struct Quoted {
     pub refusal: Refusal,
     pub recipe_length: u32,
@@ -29,7 +31,7 @@ pub struct Quoted {
 }
 
 // The answer of the job's quote, and the new head.
-#[derive(Drop)]
+#[derive(Clone, Copy)]
 pub struct Taken {
     pub quoted: Quoted,
     pub head: Head,

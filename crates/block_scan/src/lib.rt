@@ -1,5 +1,7 @@
 // The scan of a part window by window, where a window holds a block of 8 bytes: the layer between the scan byte by byte and
 // the chunker.
+#![tactic(auto)]
+
 ghost use Rattle.std.specs.Prelude.{◌≡◌, length, min, ◌≤◌, ◌<◌};
 ghost use Rattle.scan.specs.Limits.{window_limit};
 ghost use Rattle.scan.specs.Scanner.{fresh};

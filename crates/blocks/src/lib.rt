@@ -1,11 +1,13 @@
 // The first of the largest bytes of a stretch: the layer below the scan. A window of n to 2n bytes is looked at as two
 // overlapping blocks of n, the first from `from` on and the second from `last` on.
+#![tactic(auto)]
+
 ghost use Rattle.std.specs.Prelude.{◌≡◌, ◌+◌, ◌/◌, ◌%◌, ◌-◌, ◌^◌, min, max, ◌≤◌, ◌<◌, length};
 ghost use Rattle.blocks.specs.internal.Largest.{Stands, FirstAt, AnyLarger, FirstLargest, LargestFrom};
 ghost use Rattle.blocks.specs.internal.Key.{key_of, key_limit};
 
 // A byte that is the largest so far: the index after it, and its value.
-#[derive(Drop)]
+#[derive(Clone, Copy)]
 pub struct Peak {
     pub after: usize,
     pub value: u8,

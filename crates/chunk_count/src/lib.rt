@@ -1,5 +1,7 @@
 // The number of chunks of a job, with which a window is chosen and the chunker is measured from
 // outside.
+#![tactic(auto)]
+
 ghost use Rattle.std.specs.Prelude.{◌≡◌};
 ghost use Rattle.chunk_count.specs.ChunkCount.{chunk_count};
 

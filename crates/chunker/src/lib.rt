@@ -1,5 +1,7 @@
 // Content-defined chunking by Asymmetric Extremum: a scanner that is handed a job in parts and
 // says where its chunks end.
+#![tactic(auto)]
+
 ghost use Rattle.std.specs.Prelude.{◌≡◌};
 ghost use Rattle.chunker.specs.Answers.{opened, unmoved, fed, fed_in_place, finished};
 ghost use Rattle.scan.specs.Scanner.{fresh};
@@ -25,14 +27,14 @@ const NO_CHUNK: FirstChunk = FirstChunk {
     value: 0,
 };
 
-#[derive(Drop)]
+#[derive(Clone, Copy)]
 pub struct Opened {
     pub refusal: Refusal,
     pub scanner: Scanner,
 }
 
 // The count is the length of the last chunk, 0 where there is none.
-#[derive(Drop)]
+#[derive(Clone, Copy)]
 pub struct Finished {
     pub refusal: Refusal,
     pub scanner: Scanner,

@@ -2,6 +2,8 @@
 // lengths of the chunks, and the places and the values of their maximum points. The jobs are those that
 // the papers work by hand and some thousands of pseudo-random ones, each fed to the scanner in random
 // splittings.
+#![tactic(auto)]
+
 mod feeding;
 mod generated;
 mod handworked;

@@ -6,7 +6,7 @@ use difference::Difference;
 use libc::STDOUT_FILENO;
 
 // The comparisons, the numbers compared, and the comparisons with a difference.
-#[derive(Drop)]
+#[derive(Clone, Copy)]
 pub struct Tally {
     pub comparisons: u64,
     pub numbers: u64,

@@ -5,7 +5,7 @@ ghost use Rattle.copying.specs.Written.{written};
 ghost use Rattle.copying.specs.internal.Fours.{in_order};
 
 // Four bytes, one after another.
-#[derive(Drop)]
+#[derive(Clone, Copy)]
 pub struct Four {
     pub a: u8,
     pub b: u8,

@@ -1,4 +1,6 @@
 // Copying bytes into lent memory: a layer below admission and rebuilding.
+#![tactic(auto)]
+
 ghost use Rattle.std.specs.Prelude.{◌≡◌, ◌+◌, ◌≤◌, length, take, drop};
 ghost use Rattle.copying.specs.Written.{written};
 ghost use Rattle.copying.specs.internal.Covered.{Covered};

@@ -1,4 +1,6 @@
 // How many of a job's cuts are due to bytes of each of three kinds, counted chunk by chunk. The layer below the survey.
+#![tactic(auto)]
+
 ghost use Rattle.std.specs.Prelude.{◌≡◌, ◌+◌, ◌^◌, ◌<◌};
 ghost use Rattle.cut_counts.specs.internal.Counting.{with_chunk};
 
@@ -10,7 +12,7 @@ const FIRST_PRINTABLE: u8 = 0x20;
 const LAST_PRINTABLE: u8 = 0x7E;
 
 // The cuts whose maximum point has a value below 20, from 20 to 7E, and above 7E, hexadecimal.
-#[derive(Drop)]
+#[derive(Clone, Copy)]
 pub struct CutCounts {
     pub low: u32,
     pub printable: u32,

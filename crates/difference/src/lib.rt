@@ -1,11 +1,13 @@
 // Where two lists of chunks differ: the comparison of the program `compare`. A list is memory that begins with how many
 // numbers follow: for each chunk that a cut ends its length, and the place and the value of its maximum point; then the
 // length of the last chunk, 0 where there is none.
+#![tactic(auto)]
+
 ghost use Rattle.std.specs.Prelude.{◌≡◌};
 ghost use Rattle.difference.specs.Difference.{difference};
 
 // Whether two lists are the same, or the first place at which they differ, counted from 0.
-#[derive(Drop)]
+#[derive(Clone, Copy)]
 pub enum Difference {
     Nowhere,
     At(usize),

@@ -1,5 +1,7 @@
 // The directory of a store: two numbers per entry, the chunk's offset in the pool and its length. The layer
 // below the store.
+#![tactic(auto)]
+
 ghost use Rattle.std.specs.Prelude.{◌≡◌, ◌+◌, ◌*◌, ◌<◌, length};
 ghost use Rattle.directory.specs.Entry.{stride, offset_at, length_at, entries, entered};
 
@@ -11,11 +13,11 @@ pub use layout::laid_out;
 pub const STRIDE: usize = 2;
 
 // A place in the pool, counted from 0.
-#[derive(Drop)]
+#[derive(Clone, Copy)]
 pub struct PoolOffset(pub u32);
 
 // The number of a chunk in the directory, counted from 0.
-#[derive(Drop)]
+#[derive(Clone, Copy)]
 pub struct ChunkNumber(pub u32);
 
 // The entries that a directory has room for.

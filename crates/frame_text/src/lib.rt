@@ -1,4 +1,6 @@
 // The text of one frame. The layer below the listing.
+#![tactic(auto)]
+
 ghost use Rattle.std.specs.Prelude.{◌≡◌, ◌+◌, ◌≤◌, ◌<◌, length};
 ghost use Rattle.std.proofs.lemmas.List.Edits.{sets};
 ghost use Rattle.frame_text.specs.Frame.{frame_bytes, digit, hex, frame, last_frame};

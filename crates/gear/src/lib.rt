@@ -1,4 +1,6 @@
 // The Gear sum of bytes, by a constant table, and the chain that it chooses.
+#![tactic(auto)]
+
 ghost use Rattle.std.specs.Prelude.{◌≡◌, ◌+◌, ◌-◌, ◌*◌, ◌/◌, ◌%◌, ◌^◌, ◌<◌, ◌≤◌, length, take, drop, slice_index, slice_range};
 ghost use Rattle.gear.specs.Gear.{table, sum, chain};
 ghost use Rattle.gear.specs.internal.After.{after_sum};

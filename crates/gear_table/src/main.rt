@@ -1,4 +1,6 @@
 // Prints the table of the Gear sum from its rule, one entry per line.
+#![tactic(auto)]
+
 ghost use Rattle.std.specs.Prelude.{◌≡◌, ◌<◌};
 ghost use Rattle.gear.specs.Gear.{next};
 ghost use Rattle.gear_table.specs.Line.{digit_at, line};

@@ -1,4 +1,6 @@
 // The index of a store: chains of chunk numbers by the chunks' Gear sums. The layer below search and storing.
+#![tactic(auto)]
+
 ghost use Rattle.std.specs.Prelude.{◌≡◌, true, [], ◌∷◌, ◌+◌, ◌≤◌, ◌<◌, length, set};
 ghost use Rattle.refusal.specs.Grounds.{first};
 ghost use Rattle.gear.specs.Gear.{chains};

@@ -1,4 +1,6 @@
 // Lists standard input: takes it as a job into a fresh store, and prints one frame per line.
+#![tactic(auto)]
+
 ghost use Rattle.std.specs.Prelude.{◌≤◌, length};
 
 use libc::{STDERR_FILENO, STDIN_FILENO, STDOUT_FILENO};

@@ -1,4 +1,6 @@
 // The listing of a job: one frame per chunk, and a last frame with the counts.
+#![tactic(auto)]
+
 ghost use Rattle.std.specs.Prelude.{◌≡◌};
 ghost use Rattle.listing_frames.specs.Frames.{refused_frame, written, listed};
 
@@ -26,7 +28,7 @@ const RECIPE_PLACES: usize = 1024;
 pub const OUTPUT_BYTES: usize = (RECIPE_PLACES + 1) * FRAME_BYTES;
 
 // The refusal of a job, and how many bytes of frames were written.
-#[derive(Drop)]
+#[derive(Clone, Copy)]
 pub struct Listed {
     pub refusal: Refusal,
     pub written: usize,

@@ -1,5 +1,7 @@
 // The marks that stand in a recipe while a quote is under way: the search for a chunk among the job's earlier ones, and the
 // last pass, which turns marks into numbers. The layer below the survey of a job.
+#![tactic(auto)]
+
 ghost use Rattle.std.specs.Prelude.{◌≡◌, cond, [], ◌++◌, ◌+◌, ◌/◌, ◌%◌, ◌≤◌, ◌<◌, ◌^◌, eqb, leb, length, take, drop, set};
 ghost use Rattle.store.specs.Limits.{job_limit};
 ghost use Rattle.store.specs.Contents.{number as number_of};

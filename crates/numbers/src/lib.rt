@@ -1,4 +1,6 @@
 // Scanners, heads and answers as the numbers that C hands in and gets back. The layer below the library for C.
+#![tactic(auto)]
+
 ghost use Rattle.std.specs.Prelude.{◌≡◌};
 ghost use Rattle.refusal.specs.Number.{number_of};
 

@@ -1,1 +1,2 @@
 // What is promised over lists of events: definitions and theorems alone, and nothing that runs.
+#![tactic(auto)]

@@ -46,7 +46,7 @@ fn rebuilt_length(pool: &[u8], directory: &[u32], recipe: &[u32]) -> u64
 }
 
 // The refusal of a rebuilding, and where there is none the rebuilt job's length.
-#[derive(Drop)]
+#[derive(Clone, Copy)]
 pub struct Tested {
     pub refusal: Refusal,
     pub total: u64,

@@ -1,4 +1,6 @@
 // Rebuilding: a recipe's chunks back as bytes.
+#![tactic(auto)]
+
 ghost use Rattle.std.specs.Prelude.{◌≡◌, ◌++◌, ◌≤◌, length, drop};
 ghost use Rattle.rebuild.specs.Rebuilding.{rebuilt_bytes, rebuilt};
 ghost use Rattle.rebuild.specs.internal.Located.{Located};
@@ -10,7 +12,7 @@ use refusal::Refusal;
 use store::{ChunkNumber, Head, PoolOffset};
 
 // How many bytes were written, 0 when refused.
-#[derive(Drop)]
+#[derive(Clone, Copy)]
 pub struct Rebuilt {
     pub refusal: Refusal,
     pub written: u64,

@@ -1,9 +1,11 @@
+#![tactic(auto)]
+
 ghost use Rattle.std.specs.Prelude.{◌≡◌};
 ghost use Rattle.refusal.specs.Number.{number_of, accepted};
 
 // The grounds for turning work away, by their numbers. The first in the paper's checking order that
 // holds is reported; `Accepted` says that none does.
-#[derive(Drop)]
+#[derive(Clone, Copy)]
 pub enum Refusal {
     Accepted,
     // 1: the window is not 1 to 64.

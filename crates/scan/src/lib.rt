@@ -1,5 +1,7 @@
 // A scanner, and the scan of a part of a job byte by byte for the byte that ends the open chunk: a layer below
 // the chunker, which tests what is asked for here.
+#![tactic(auto)]
+
 ghost use Rattle.std.specs.Prelude.{◌≡◌, length, ◌≤◌};
 ghost use Rattle.scan.specs.Limits.{window_limit};
 ghost use Rattle.scan.specs.Scanner.{fresh};
@@ -11,7 +13,7 @@ use refusal::Refusal;
 
 // What is known of the open chunk: its window, the bytes since the last cut, the place of the
 // largest byte so far (first on a tie, counted from 1) and its value.
-#[derive(Drop)]
+#[derive(Clone, Copy)]
 pub struct Scanner {
     pub window: u32,
     pub count: u32,
@@ -21,7 +23,7 @@ pub struct Scanner {
 
 // How many bytes of the part were consumed, and whether a cut follows them. At a cut, the place of the chunk's maximum
 // point, counted from 1 in the chunk, and its value; without one both are 0.
-#[derive(Drop)]
+#[derive(Clone, Copy)]
 pub struct Fed {
     pub refusal: Refusal,
     pub scanner: Scanner,
@@ -32,7 +34,7 @@ pub struct Fed {
 }
 
 // The first chunk of a job: its length, whether a cut ends it, and as in `Fed` its maximum point.
-#[derive(Drop)]
+#[derive(Clone, Copy)]
 pub struct FirstChunk {
     pub length: usize,
     pub cut: bool,

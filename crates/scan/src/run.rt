@@ -10,7 +10,7 @@ use refusal::Refusal;
 // A scan under way over a part: `base` bytes of the open chunk came before the part, `at` bytes of
 // the part are passed, and the chunk ends after `deadline` of them unless a byte larger than
 // `value` comes.
-#[derive(Drop)]
+#[derive(Clone, Copy)]
 pub struct Run {
     pub window: usize,
     pub base: usize,

@@ -1,4 +1,6 @@
 // The search for a chunk in a store, along the chain of its Gear sum: a layer below admission.
+#![tactic(auto)]
+
 ghost use Rattle.std.specs.Prelude.{◌≡◌, true, false, ◌+◌, ◌≤◌, ◌<◌, min, length, take, drop};
 ghost use Rattle.gear.specs.Gear.{chains, chain};
 ghost use Rattle.store.specs.Contents.{same, number};

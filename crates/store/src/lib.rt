@@ -1,4 +1,6 @@
 // The store: a head, a lent pool of chunk bytes and a lent directory of their places.
+#![tactic(auto)]
+
 ghost use Rattle.std.specs.Prelude.{◌≡◌};
 ghost use Rattle.store.specs.Opening.{fresh, opened};
 ghost use Rattle.store.specs.Grounds.{look_ground};
@@ -19,25 +21,25 @@ pub const DIRECTORY_LIMIT: usize = 131070;
 pub const RECIPE_LIMIT: usize = 65535;
 
 // A place in a job, counted from 0.
-#[derive(Drop)]
+#[derive(Clone, Copy)]
 pub struct JobPosition(pub u32);
 
 // The window, the number that the next new chunk gets, and where its bytes go.
-#[derive(Drop)]
+#[derive(Clone, Copy)]
 pub struct Head {
     pub window: u32,
     pub chunks: ChunkNumber,
     pub filled: PoolOffset,
 }
 
-#[derive(Drop)]
+#[derive(Clone, Copy)]
 pub struct Opened {
     pub refusal: Refusal,
     pub head: Head,
 }
 
 // A stretch of the pool: where it starts and how many bytes it has.
-#[derive(Drop)]
+#[derive(Clone, Copy)]
 pub struct Stretch {
     pub offset: PoolOffset,
     pub length: u32,

@@ -1,4 +1,6 @@
 // The pass that stores the new chunks of a surveyed job. It cannot refuse. The layer below admission.
+#![tactic(auto)]
+
 ghost use Rattle.std.specs.Prelude.{◌≡◌, take};
 ghost use Rattle.marks.specs.Marks.{new_chunks};
 ghost use Rattle.storing.specs.Storing.{stored};

@@ -13,7 +13,7 @@ use store::{Head, JobPosition};
 
 // The ground on which a chunk of a job was refused, if one was, and what is counted of the chunks before it; the cuts are
 // the job's where none was.
-#[derive(Drop)]
+#[derive(Clone, Copy)]
 pub struct Surveyed {
     pub refusal: Refusal,
     pub progress: Progress,

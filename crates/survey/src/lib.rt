@@ -1,5 +1,7 @@
 // The survey of a job: what its chunks come to, one after another, with a mark for each in the recipe and nothing stored. The
 // layer below admission.
+#![tactic(auto)]
+
 ghost use Rattle.std.specs.Prelude.{◌≡◌, ◌+◌, ◌^◌, ◌<◌};
 ghost use Rattle.survey.specs.internal.Snapshot.{snapshot, begun_at, with_repeated, with_new, chunk_outcome, heads_after};
 ghost use Rattle.survey.specs.internal.Ready.{Lent, Marked, Next};
@@ -12,7 +14,7 @@ mod chunks;
 pub use chunks::{Surveyed, survey};
 
 // The next chunk number and pool offset, and what is counted so far.
-#[derive(Drop)]
+#[derive(Clone, Copy)]
 pub struct Progress {
     pub chunks: ChunkNumber,
     pub filled: PoolOffset,
@@ -22,7 +24,7 @@ pub struct Progress {
 }
 
 // The outcome of one chunk.
-#[derive(Drop)]
+#[derive(Clone, Copy)]
 pub struct Step {
     pub refusal: Refusal,
     pub progress: Progress,

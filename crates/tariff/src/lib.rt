@@ -1,4 +1,6 @@
 // The tariff of the link: what a recipe costs there, and what a job saves.
+#![tactic(auto)]
+
 ghost use Rattle.std.specs.Prelude.{◌≡◌};
 ghost use Rattle.tariff.specs.Tariff.{packets, saving_of};
 

@@ -28,7 +28,7 @@ mod_factor x t r m =
 pub sum_from_below : (s : ℕ) (bs : List ℕ) → s < 2 ^ 32 → sum_from s bs < 2 ^ 32
 unfolding sum_from
 sum_from_below s [] h = h
-sum_from_below s (b ∷ bs) h = sum_from_below _ bs (omega arith)
+sum_from_below s (b ∷ bs) h = sum_from_below ((s * 2 + get_or table b 0) % 2 ^ 32) bs (omega arith)
 
 pub chain_below : (bs : List ℕ) → chain bs < 1024
 unfolding chain
@@ -50,7 +50,7 @@ sum_whole s (b ∷ bs) h =
 sum_from_append : (s : ℕ) (xs ys : List ℕ) → sum_from s (xs ++ ys) ≡ sum_from (sum_from s xs) ys
 unfolding sum_from
 sum_from_append s [] ys = refl
-sum_from_append s (x ∷ xs) ys = sum_from_append _ xs ys
+sum_from_append s (x ∷ xs) ys = sum_from_append ((s * 2 + get_or table x 0) % 2 ^ 32) xs ys
 
 -- the sum of bytes and one more
 pub sum_one_more : (xs : List ℕ) (b : ℕ) → sum (xs ++ (b ∷ [])) ≡ (sum xs * 2 + get_or table b 0) % 2 ^ 32

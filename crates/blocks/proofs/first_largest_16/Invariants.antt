@@ -1,0 +1,14 @@
+-- `blocks::first_largest_16` meets its contract.
+use Prim.Native.Nat.{◌+◌, ◌-◌, ◌≤◌}
+use native.Mathlib.Omega.{arith}
+use mathlib.Core.Path.{◌≡◌}
+use lib.ListN.{length}
+use borrow.Author.Rules.{rules}
+use Rattle.blocks.proofs.laws.Windows.{Least, least_none, least_more, least_all}
+use Rattle.blocks.proofs.first_largest_16.Given as goal
+
+abbrev pub invariant-loop-i : goal.invariant-loop-i
+invariant-loop-i l = (l.last ≡ l.from + l.shift) × (l.shift ≤ 16) × (l.last + 16 ≤ length l.part) × (l.i ≤ 16) × Least l.part l.from l.last 16 l.shift l.i l.least
+
+abbrev pub decreases-loop-i : goal.decreases-loop-i
+decreases-loop-i l = 16 - l.i

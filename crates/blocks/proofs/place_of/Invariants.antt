@@ -1,0 +1,13 @@
+-- `blocks::place_of` meets its contract: the byte stands at an index that the search does not pass.
+use Prim.Native.Nat.{◌+◌, ◌-◌}
+use native.Mathlib.Omega.{arith}
+use lib.ListN.{length, get_or}
+use mathlib.Core.Path.{◌≡◌}
+use Rattle.blocks.proofs.laws.Largest.{at_one, Unseen, unseen_none, unseen_to, unseen_found}
+use Rattle.blocks.proofs.place_of.Given as goal
+
+abbrev pub invariant-loop-at : goal.invariant-loop-at
+invariant-loop-at l = Unseen l.part l.from (length l.part) l.byte l.at
+
+abbrev pub decreases-loop-at : goal.decreases-loop-at
+decreases-loop-at l = length l.part - l.at

@@ -1,0 +1,6 @@
+-- `refusal::accepted` meets its contract.
+use borrow.Author.Rules.{rules}
+use Rattle.refusal.proofs.accepted.Goals as goal
+
+pub returns : goal.returns
+returns c = rw c.number.ensures
