@@ -15,36 +15,36 @@ packets-requires c κs = search rules
 few : (c : tie.After-packets) → c.packets.result < 2 ^ 32
 few c = let start = c.before in rw c.packets.ensures (packets_small (omega arith))
 
-mul-charged : tie.Need-overflow-mul-charged
+mul-charged : tie.Need-overflow_mul-charged
 mul-charged c = omega (arith, few c)
 
-add-charged : tie.Need-overflow-add-charged
+add-charged : tie.Need-overflow_add-charged
 add-charged c = omega (arith, few c)
 
-cast-result : tie.Need-overflow-cast-result
+cast-result : tie.Need-overflow_cast-result
 cast-result c = search rules
 
-cast-result-2 : tie.Need-overflow-cast-result-2
+cast-result-2 : tie.Need-overflow_cast-result-2
 cast-result-2 c = omega (arith, few c)
 
-sub-result : tie.Need-overflow-sub-result
+sub-result : tie.Need-overflow_sub-result
 sub-result c =
     let a = c.before.args in
-    saving_fits a.job-length (a.new-bytes + packet_charge * c.packets.result) (omega arith) (omega (arith, few c))
+    saving_fits a.job_length (a.new_bytes + packet_charge * c.packets.result) (omega arith) (omega (arith, few c))
 
 returns : tie.Need-returns
 returns c =
     let a = c.before.args in
-    let charged = a.new-bytes + packet_charge * c.packets.result in
+    let charged = a.new_bytes + packet_charge * c.packets.result in
     rw (
       to_z-of_z (sub-result c),
-      same_difference a.job-length charged (omega arith) (omega (arith, few c)),
+      same_difference a.job_length charged (omega arith) (omega (arith, few c)),
       together,
       c.packets.ensures,
     )
 
-pub saving-spec : {M : Type 1} → statement M
-saving-spec =
+pub saving_spec : {M : Type 1} → statement M
+saving_spec =
     tie.close
     (tie.spec
     packets-requires
