@@ -31,6 +31,7 @@ stays s n (b ∷ bs) h = absurd (omega arith)
 pub starts : (s : Scanner) (part : List ℕ) → s.count ≡ 0 → 0 < length part
     → scan s 0 part
     ≡ scan (record { window = s.window; count = 1; place = 1; value = get_or part 0 0 }) 1 (drop 1 part)
+starts s [] h g = absurd (omega arith)
 starts s (b ∷ bs) h g =
     let e = move_start s b h in
     rw (scan_by s 0 b bs Rise e, next_by s b Rise e, h)

@@ -62,9 +62,9 @@ loop-again c =
     let at-loop = c.before.before.before in
     let at = at-loop.loop-at.at in
     ⊎_elim
-    (λ passes. rw (passes.2, passes.3) (byte_passes at-loop.loop-at.invariant (omega arith) passes.0.taken (omega arith)))
-    (λ rises. rw (rises.1, rises.2, next at at-loop.before.before.before.args.run.window) (byte_rises at-loop.loop-at.invariant (omega arith) rises.0.left (omega (arith, c.before.shared_slice_known-in-loop-at-1.given at))))
-    c.if-byte-value.branch
+    (λ passes. rw (passes.last-is, passes.value-is) (byte_passes at-loop.loop-at.invariant (omega arith) passes.if-byte-value.true (omega arith)))
+    (λ rises. rw (rises.last-is, rises.value-is, next at at-loop.before.before.before.args.run.window) (byte_rises at-loop.loop-at.invariant (omega arith) rises.if-byte-value.false (omega (arith, c.before.shared_slice_known-in-loop-at-1.given at))))
+    c.if-byte-value.branch-raw
 
 add-t16 : tie.Need-overflow_add-last-2 invariant-loop decreases-loop
 add-t16 c = omega (arith, deadline_small c.before.loop-at.invariant.order)
