@@ -81,6 +81,7 @@ module _ (w : ℕ) where
   -- the largest byte suc u at place p, if u can stand at every place that it reaches
   by_place : (u p : ℕ) → suc u < 256 → 1 ≤ p → p ≤ suc u * w + 1 → 1 ≤ w
       → ((q : ℕ) → 1 ≤ q → q ≤ u * w + 1 → Reaching w (at w q q u)) → Reaching w (at w p p (suc u))
+  by_place u zero k l h g f = absurd (omega arith)
   by_place u (suc zero) k l h g f = first (suc u) k
   by_place u (suc (suc n)) k l h g f =
       let q = max 1 (suc (suc n) - w) in

@@ -1,0 +1,6 @@
+-- `chunker::unmoved` meets its contract.
+use borrow.Author.Rules.{rules}
+use Rattle.chunker.proofs.unmoved.Goals as goal
+
+pub returns : goal.returns
+returns c = rw c.fresh.ensures
