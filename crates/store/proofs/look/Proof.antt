@@ -14,73 +14,73 @@ use Rattle.store.proofs.laws.Stretches.{look_placed, stretch_found}
 use Rattle.store.proofs.look.Statement.{statement}
 use Rattle.store.proofs.look.Tie as tie
 
-look-ground-requires : tie.Need-look-ground-requires
+look-ground-requires : tie.Need-look_ground-ground-requires
 look-ground-requires c κs = search rules
 
 accepted-requires : tie.Need-accepted-requires
 accepted-requires c κs = search rules
 
-sub-result : tie.Need-overflow-sub-result
+sub-result : tie.Need-slice_bounds-result-count
 sub-result c = search rules
 
-part-result-start : tie.Need-slice-bounds-result-start
+part-result-start : tie.Need-slice_bounds-result-start
 part-result-start c = search rules
 
-part-result-end : tie.Need-slice-bounds-result-end
+part-result-end : tie.Need-slice_bounds-result-end
 part-result-end c = search rules
 
-returns : tie.Need-returns
+returns : tie.Need-returns-then-not-accepted
 unfolding shown
 returns c =
-    let ground = c.before.before.before.look-ground.ensures in
-    let h = sym (ap accepted ground) ∙ (sym c.before.before.accepted.ensures ∙ not-true _ c.before.if1.true) in
+    let ground = c.before.before.before.look_ground-ground.ensures in
+    let h = sym (ap accepted ground) ∙ (sym c.before.before.accepted.ensures ∙ not-true _ c.before.if-not-accepted.true-raw) in
     simp (h, zero-add)
 
 -- no ground holds
-passed : (c : tie.Else1) → let a = c.before.before.before.before.before.args in
+passed : (c : tie.Else-not-accepted) → let a = c.before.before.before.before.before.args in
     accepted (look_ground a.head a.pool.now a.directory.now a.number) ≡ true
 passed c =
-    sym (ap accepted c.before.before.look-ground.ensures)
-    ∙ (sym c.before.accepted.ensures ∙ not-false _ c.if1.false)
+    sym (ap accepted c.before.before.look_ground-ground.ensures)
+    ∙ (sym c.before.accepted.ensures ∙ not-false _ c.if-not-accepted.false-raw)
 
 -- so the chunk has its entry in the directory and its bytes in the pool
-placed : (c : tie.Else1) → let a = c.before.before.before.before.before.args in
+placed : (c : tie.Else-not-accepted) → let a = c.before.before.before.before.before.args in
     Placed a.head a.pool.now a.directory.now a.number.0
 placed c = look_placed _ _ _ _ (passed c)
 
-stretch-of-requires : tie.Need-stretch-of-requires
+stretch-of-requires : tie.Need-stretch_of-stretch-requires
 stretch-of-requires c κs = search rules
 
 -- the stretch is that of the entry
-entry : (c : tie.After-stretch-of) → let a = c.before.before.before.before.before.before.args in
-    (c.stretch-of.result.offset.0 ≡ offset_at a.directory.now a.number.0)
-    × (c.stretch-of.result.length ≡ length_at a.directory.now a.number.0)
+entry : (c : tie.After-stretch_of-stretch) → let a = c.before.before.before.before.before.before.args in
+    (c.stretch_of-stretch.result.offset.0 ≡ offset_at a.directory.now a.number.0)
+    × (c.stretch_of-stretch.result.length ≡ length_at a.directory.now a.number.0)
 entry c =
-    let found = c.stretch-of.ensures ∙ stretch_found _ _ (placed c.before).in_directory in
+    let found = c.stretch_of-stretch.ensures ∙ stretch_found _ _ (placed c.before).in_directory in
     (ap (λ t. t.offset.0) found, ap (λ t. t.length) found)
 
-cast-from : tie.Need-overflow-cast-from
+cast-from : tie.Need-overflow_cast-from
 cast-from c = search rules
 
-cast-to : tie.Need-overflow-cast-to
+cast-to : tie.Need-overflow_cast-to
 cast-to c = search rules
 
-add-to : tie.Need-overflow-add-to
+add-to : tie.Need-overflow_add-to
 add-to c = search rules
 
-sub-result-2 : tie.Need-overflow-sub-result-2
+sub-result-2 : tie.Need-slice_bounds-result-count-2
 sub-result-2 c = search rules
 
-part-result-start-2 : tie.Need-slice-bounds-result-start-2
+part-result-start-2 : tie.Need-slice_bounds-result-start-2
 part-result-start-2 c = search rules
 
-part-result-end-2 : tie.Need-slice-bounds-result-end-2
+part-result-end-2 : tie.Need-slice_bounds-result-end-2
 part-result-end-2 c =
     let found = c.before.before.before in
     let p = placed found.before in
     omega (arith, (entry found).0, (entry found).1, p.within, p.in_pool)
 
-returns-2 : tie.Need-returns-2
+returns-2 : tie.Need-returns
 unfolding shown
 returns-2 c =
     let found = c.before.before.before.before in
