@@ -8,7 +8,7 @@ use mathlib.Core.Bool.{Bool, true, false, ◌&&◌}
 use mathlib.Core.List.{List, [], ◌∷◌, ◌++◌, append_assoc, append-nil}
 use lib.Dec.{eqb, ltb}
 use lib.ListN.{length, get_or, set, length-set, length-append, get_or-replicate, get_or-append}
-use lib.Seq.{get_or-set_same, get_or_set_other, get_or-append_seam}
+use lib.Seq.{get_or-set_same, get_or-set_other, get_or-append_seam}
 use borrow.Author.Tests.{eqb-true, eqb-false, eq-eqb, lt-ltb, le-ltb, ltb-true, ltb-false}
 use Rattle.gear.specs.Gear.{chains, chain}
 use Rattle.index.specs.Index.{none, head_at, link_at, chain_at, Trail, once, times, fresh_index, enter, enter_all}
@@ -40,22 +40,22 @@ module _ (index : List ℕ) (n : ℕ) (c : List ℕ) where
     head_other : (d : ℕ) → d < chains → (d ≡ chain c → ⊥) → head_at (enter index n c) d ≡ head_at index d
     unfolding enter
     head_other d l h =
-        get_or_set_other (set index (chains + n) (head_at index (chain c))) (chain c) d n 0 h
-        ∙ get_or_set_other index (chains + n) d (head_at index (chain c)) 0 (λ e. omega arith)
+        get_or-set_other (set index (chains + n) (head_at index (chain c))) (chain c) d n 0 h
+        ∙ get_or-set_other index (chains + n) d (head_at index (chain c)) 0 (λ e. omega arith)
 
     pub link_new : link_at (enter index n c) n ≡ head_at index (chain c)
     unfolding enter
     link_new =
-        get_or_set_other (set index (chains + n) (head_at index (chain c))) (chain c) (chains + n) n 0
+        get_or-set_other (set index (chains + n) (head_at index (chain c))) (chain c) (chains + n) n 0
         (λ e. omega (arith, chain_below c))
         ∙ get_or-set_same index (chains + n) (head_at index (chain c)) 0 room
 
     pub link_old : (k : ℕ) → (k ≡ n → ⊥) → link_at (enter index n c) k ≡ link_at index k
     unfolding enter
     link_old k h =
-        get_or_set_other (set index (chains + n) (head_at index (chain c))) (chain c) (chains + k) n 0
+        get_or-set_other (set index (chains + n) (head_at index (chain c))) (chain c) (chains + k) n 0
         (λ e. omega (arith, chain_below c))
-        ∙ get_or_set_other index (chains + n) (chains + k) (head_at index (chain c)) 0 (λ e. h (omega arith))
+        ∙ get_or-set_other index (chains + n) (chains + k) (head_at index (chain c)) 0 (λ e. h (omega arith))
 
     -- a trail without the number stays
     trail_enter : (at : ℕ) (ns : List ℕ) → Trail index at ns → ((k : ℕ) → 0 < times k ns → k < n)
@@ -184,9 +184,9 @@ enter_kept : (index : List ℕ) (n : ℕ) (c : List ℕ) (i : ℕ) → chains �
     → get_or (enter index n c) i 0 ≡ get_or index i 0
 unfolding enter
 enter_kept index n c i l other =
-    get_or_set_other (set index (chains + n) (head_at index (chain c))) (chain c) i n 0
+    get_or-set_other (set index (chains + n) (head_at index (chain c))) (chain c) i n 0
     (λ e. omega (arith, chain_below c))
-    ∙ get_or_set_other index (chains + n) i (head_at index (chain c)) 0 other
+    ∙ get_or-set_other index (chains + n) i (head_at index (chain c)) 0 other
 
 pub enter_all_kept : (index : List ℕ) (n : ℕ) (cs : List (List ℕ)) (i : ℕ) → chains ≤ i
     → (i < chains + n) ⊎ (chains + n + length cs ≤ i) → get_or (enter_all index n cs) i 0 ≡ get_or index i 0

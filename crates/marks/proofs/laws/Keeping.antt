@@ -8,7 +8,7 @@ use mathlib.Core.Bool.{Bool, true, false, cond, ◌||◌, true≢false}
 use mathlib.Core.List.{List, [], ◌∷◌, ◌++◌, append_assoc}
 use lib.Dec.{eqb}
 use lib.ListN.{length, get_or, take, set, replicate, length-append, get_or-replicate}
-use lib.Seq.{take_at, take-append-le, get_or-set_same, get_or_set_other}
+use lib.Seq.{take_at, take-append-le, get_or-set_same, get_or-set_other}
 use borrow.Author.Tests.{eq-eqb, eqb-true}
 use Rattle.chunker.specs.Chunks.{total}
 use Rattle.store.specs.Contents.{has}
@@ -48,7 +48,7 @@ module _ (starts : List ℕ) (place at : ℕ) where
           → get_or (cond t (set starts (place / start_stride) at) starts) k 0 ≡ get_or starts k 0
       by_test true e =
           let even = eqb-true (place % start_stride) 0 e in
-          get_or_set_other starts (place / start_stride) k at 0 (λ (same : k ≡ place / start_stride). omega arith)
+          get_or-set_other starts (place / start_stride) k at 0 (λ (same : k ≡ place / start_stride). omega arith)
       by_test false e = refl
 
   -- that of the place is there
@@ -148,6 +148,6 @@ module _ (w : ℕ) (job : List ℕ) (held ds : List (List ℕ)) (c : List ℕ) (
             rw own (get_or-set_same heads k (length ds) 0 (omega arith)) in
             here ∙ sym (last_after k ∙ rw (new, e))
         each k l false e =
-            get_or_set_other heads (own_chain c) k (length ds) 0
+            get_or-set_other heads (own_chain c) k (length ds) 0
             (λ (same : k ≡ own_chain c). true≢false (sym (of_own c k (next_start p).some (sym same)) ∙ e))
             ∙ head_before k l ∙ sym (last_after k ∙ rw (new, e))

@@ -7,7 +7,7 @@ use mathlib.Core.Bool.{true}
 use mathlib.Core.List.{List, [], ◌∷◌, ◌++◌}
 use lib.ListN.{length, take, drop, get_or, set, length-append, length-take, length-drop, length-set}
 use lib.Seq.{take-take, take-append-le, take-append_seam, drop_at, get_or-take, take-set-le, length-take-le}
-use lib.Seq.{get_or-set_same, get_or_set_other}
+use lib.Seq.{get_or-set_same, get_or-set_other}
 use Rattle.store.specs.declared.Head.{Head}
 use Rattle.directory.specs.Entry.{offset_at, length_at, entries, entered, stride}
 use Rattle.store.specs.Grounds.{fits}
@@ -115,7 +115,7 @@ module _ (head : Head) (pool directory : List ℕ) (fitting : fits head pool dir
   offset_after : offset_at (directory_after head directory c) head.chunks.0 ≡ head.filled.0
   offset_after =
       let at = head.chunks.0 * stride in
-      get_or_set_other (set directory at head.filled.0) (at + 1) at (length c) 0 (omega arith)
+      get_or-set_other (set directory at head.filled.0) (at + 1) at (length c) 0 (omega arith)
       ∙ get_or-set_same directory at head.filled.0 0 (omega arith)
 
   -- and its length there
