@@ -1,0 +1,11 @@
+-- `frame_text::write_hex` meets its contract: each iteration writes one digit.
+use native.Mathlib.Omega.{arith}
+use mathlib.Core.Path.{refl}
+use Rattle.frame_text.proofs.laws.Stores.{Writing, writes_one, writes_all}
+use Rattle.frame_text.proofs.write_hex.Given as goal
+
+abbrev pub invariant-loop-left : goal.invariant-loop-left
+invariant-loop-left l = Writing l.initial.output l.at l.width l.value l.output l.left l.rest
+
+abbrev pub decreases-loop-left : goal.decreases-loop-left
+decreases-loop-left l = l.left
