@@ -11,10 +11,10 @@ use Rattle.marks.proofs.laws.Sizes.{sizes_more, sizes_fewer}
 use Rattle.marks.proofs.start_of.Statement.{statement}
 use Rattle.marks.proofs.start_of.Tie as tie
 
-abbrev invariant-loop : tie.invariant-loop
+abbrev invariant-loop : tie.invariant-loop-index
 invariant-loop starts recipe place from₀ index₀ from index = (index ≤ place) × (from ≡ sizes (take index recipe))
 
-abbrev decreases-loop : tie.decreases-loop
+abbrev decreases-loop : tie.decreases-loop-index
 decreases-loop starts recipe place from₀ index₀ from index = place - index
 
 -- the start that is kept is that of the last 64th place, and fits
@@ -29,64 +29,64 @@ known c =
       omega (arith, sizes_fewer a.recipe.now first a.place (omega arith), c.requires.1.1.1),
     )
 
-mul-from : tie.Need-overflow-mul-from invariant-loop decreases-loop
+mul-from : tie.Need-offset_bounds-starts-place invariant-loop decreases-loop
 mul-from c = search rules
 
-element-copy-out-from : tie.Need-element-copy-out-from invariant-loop decreases-loop
+element-copy-out-from : tie.Need-bounds-starts-place invariant-loop decreases-loop
 element-copy-out-from c = search rules
 
-cast-from : tie.Need-overflow-cast-from invariant-loop decreases-loop
-cast-from c = let k = known c.before.before in omega (arith, k.0, k.1)
+cast-from : tie.Need-overflow_cast-from invariant-loop decreases-loop
+cast-from c = let k = known c.before.before.before in omega (arith, k.0, k.1)
 
-mul-index : tie.Need-overflow-mul-index invariant-loop decreases-loop
+mul-index : tie.Need-overflow_mul-index invariant-loop decreases-loop
 mul-index c = search rules
 
-loop-holds : tie.Need-loop-init invariant-loop decreases-loop
-loop-holds c = (omega arith, (known c.before.before).0)
+loop-holds : tie.Need-loop-index-init invariant-loop decreases-loop
+loop-holds c = (omega arith, (known c.before.before.before).0)
 
-mul-size-of : tie.Need-overflow-mul-size-of invariant-loop decreases-loop
+mul-size-of : tie.Need-offset_bounds-recipe-index invariant-loop decreases-loop
 mul-size-of c = search rules
 
-shared-slice-read-size-of : tie.Need-shared-slice-read-size-of invariant-loop decreases-loop
+shared-slice-read-size-of : tie.Need-bounds-recipe-index invariant-loop decreases-loop
 shared-slice-read-size-of c = search rules
 
-size-of-requires : tie.Need-size-of-requires invariant-loop decreases-loop
+size-of-requires : tie.Need-size_of-from-requires invariant-loop decreases-loop
 size-of-requires c κs = search rules
 
 -- with the next chunk, what is summed is the start of the place after, and no more than the sum asked for
-sum : (c : tie.After-size-of invariant-loop decreases-loop) → let turn = c.before.before.before in
-    let a = turn.before.before.before.args in
-    (turn.loop.from + c.type_size.result ≡ sizes (take (turn.loop.index + 1) a.recipe.now))
-    × (sizes (take (turn.loop.index + 1) a.recipe.now) ≤ job_limit)
+sum : (c : tie.After-size_of-from invariant-loop decreases-loop) → let turn = c.before.before.before in
+    let a = turn.args in
+    (turn.loop-index.from + c.size_of-from.result ≡ sizes (take (turn.loop-index.index + 1) a.recipe.now))
+    × (sizes (take (turn.loop-index.index + 1) a.recipe.now) ≤ job_limit)
 sum c =
     let turn = c.before.before.before in
     let start = turn.before.before.before in
     let a = start.args in
-    let more = c.before.before.loop-test.true in
-    let next = sizes_more a.recipe.now turn.loop.index (omega (arith, start.requires.1.0)) in
-    let fewer = sizes_fewer a.recipe.now (turn.loop.index + 1) a.place (omega arith) in
-    (omega (arith, next, turn.loop.invariant.1, c.type_size.ensures), omega (arith, fewer, start.requires.1.1.1))
+    let more = c.loop-index-test.true in
+    let next = sizes_more a.recipe.now turn.loop-index.index (omega (arith, start.requires.1.0)) in
+    let fewer = sizes_fewer a.recipe.now (turn.loop-index.index + 1) a.place (omega arith) in
+    (omega (arith, next, turn.loop-index.invariant.1, c.size_of-from.ensures), omega (arith, fewer, start.requires.1.1.1))
 
-add-from : tie.Need-overflow-add-from invariant-loop decreases-loop
+add-from : tie.Need-overflow_add-from invariant-loop decreases-loop
 add-from c = let s = sum c in omega (arith, s.0, s.1)
 
-add-index : tie.Need-overflow-add-index invariant-loop decreases-loop
+add-index : tie.Need-overflow_add-index invariant-loop decreases-loop
 add-index c = omega arith
 
-loop-less : tie.Need-loop-smaller invariant-loop decreases-loop
+loop-less : tie.Need-loop-index-smaller invariant-loop decreases-loop
 loop-less c = omega arith
 
-loop-again : tie.Need-loop-preserved invariant-loop decreases-loop
+loop-again : tie.Need-loop-index-preserved invariant-loop decreases-loop
 loop-again c = (omega arith, (sum c).0)
 
 returns : tie.Need-returns invariant-loop decreases-loop
 returns c =
     let turn = c.before in
-    let here : turn.loop.index ≡ turn.before.before.before.args.place = omega (arith, turn.loop.invariant.0) in
-    turn.loop.invariant.1 ∙ ap (λ n. sizes (take n turn.before.before.before.args.recipe.now)) here
+    let here : turn.loop-index.index ≡ turn.args.place = omega (arith, turn.loop-index.invariant.0) in
+    turn.loop-index.invariant.1 ∙ ap (λ n. sizes (take n turn.args.recipe.now)) here
 
-pub start-of-spec : {M : Type 1} → statement M
-start-of-spec =
+pub start_of_spec : {M : Type 1} → statement M
+start_of_spec =
     tie.close
     (tie.spec
     invariant-loop

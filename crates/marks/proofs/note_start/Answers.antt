@@ -1,0 +1,12 @@
+-- `marks::note_start` meets its contract.
+use Prim.Native.Nat.{◌%◌}
+use borrow.Author.Rules.{rules}
+use borrow.Author.Tests.{eq-eqb, ne_eqb}
+use Rattle.marks.specs.internal.Places.{start_stride}
+use Rattle.marks.proofs.note_start.Goals as goal
+
+pub returns-then-place-eq0 : goal.returns-then-place-eq0
+returns-then-place-eq0 c = rw (eq-eqb (c.args.place % start_stride) 0 c.if-place-eq0.true)
+
+pub returns-else-place-eq0 : goal.returns-else-place-eq0
+returns-else-place-eq0 c = rw (ne_eqb (c.args.place % start_stride) 0 c.if-place-eq0.false)
