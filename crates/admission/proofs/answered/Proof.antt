@@ -14,14 +14,14 @@ accepted-requires c κs = search rules
 refused-requires : tie.Need-refused-requires
 refused-requires c κs = search rules
 
-returns : tie.Need-returns
+returns : tie.Need-returns-then-not-accepted
 unfolding answered
 returns c =
     let test = c.before.before in
-    let refuses = sym test.accepted.ensures ∙ not-true _ c.before.if1.true in
+    let refuses = sym test.accepted.ensures ∙ not-true _ c.if-not-accepted.true-raw in
     rw (c.refused.ensures, refuses)
 
-cast-saving : tie.Need-overflow-cast-saving
+cast-saving : tie.Need-overflow_cast-job_length
 cast-saving c = search rules
 
 saving-requires : tie.Need-saving-requires
@@ -31,14 +31,14 @@ saving-requires c κs = search rules
 kept : (c : tie.After-saving) → to_z w64 (of_z w64 c.saving.result) ≡ c.saving.result
 kept c = search rules
 
-returns-2 : tie.Need-returns-2
+returns-2 : tie.Need-returns
 unfolding answered
 returns-2 c =
     let passed = c.before.before.before in
-    let accepts = sym passed.before.accepted.ensures ∙ not-false _ passed.if1.false in
+    let accepts = sym passed.accepted.ensures ∙ not-false _ passed.if-not-accepted.false-raw in
     rw (kept c, c.saving.ensures, accepts)
 
-pub answered-spec : {M : Type 1} → statement M
-answered-spec =
+pub answered_spec : {M : Type 1} → statement M
+answered_spec =
     tie.close
     (tie.spec accepted-requires refused-requires returns cast-saving saving-requires returns-2)

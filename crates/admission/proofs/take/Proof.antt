@@ -22,19 +22,19 @@ use Rattle.admission.proofs.take.Tie as tie
 
 -- the places of the code that the needs below go back to: the start, the place past the grounds, the survey, and the place
 -- where no chunk was refused
-abbrev start_of : tie.After-admission-ground → tie.Start
-start_of c = c.before.before.before.before.before.before.before.before.before.before
+abbrev start_of : tie.After-admission_ground-ground → tie.Start
+start_of c = c.before.before.before.before.before.before
 
-abbrev tested-of : tie.After-survey → tie.Else1
-tested-of c = c.before.before.before.before.before
+abbrev tested-of : tie.After-survey-surveyed → tie.Else-not-accepted
+tested-of c = c.before.before
 
-abbrev call-of : tie.After-accepted2 → tie.After-survey
+abbrev call-of : tie.After-accepted-2 → tie.After-survey-surveyed
 call-of c = c.before.before.before.before.before
 
-abbrev passed-of : tie.After-store-new → tie.Else2
-passed-of c = c.before.before.before.before.before
+abbrev passed-of : tie.After-store_new → tie.Else-not-accepted-2
+passed-of c = c.before.before.before.before
 
-admission-ground-requires : tie.Need-admission-ground-requires
+admission-ground-requires : tie.Need-admission_ground-ground-requires
 admission-ground-requires c κs = search rules
 
 accepted-requires : tie.Need-accepted-requires
@@ -43,67 +43,67 @@ accepted-requires c κs = search rules
 refused-requires : tie.Need-refused-requires
 refused-requires c κs = search rules
 
-same_length : tie.Need-same-length
+same_length : tie.Need-shape_of-pool-then-not-accepted
 same_length c = search rules
 
-same-length-2 : tie.Need-same-length-2
+same-length-2 : tie.Need-shape_of-directory-then-not-accepted
 same-length-2 c = search rules
 
-same-length-3 : tie.Need-same-length-3
+same-length-3 : tie.Need-shape_of-index-then-not-accepted
 same-length-3 c = search rules
 
-same-length-4 : tie.Need-same-length-4
+same-length-4 : tie.Need-shape_of-recipe-then-not-accepted
 same-length-4 c = search rules
 
-returns : tie.Need-returns
+returns : tie.Need-returns-then-not-accepted
 returns c =
     let test = c.before.before in
     let a = (start_of test.before).args in
-    let ground = test.before.admission-ground.ensures in
-    let refuses = sym (ap accepted ground) ∙ sym test.accepted.ensures ∙ not-true _ c.before.if1.true in
+    let ground = test.admission_ground-ground.ensures in
+    let refuses = sym (ap accepted ground) ∙ sym test.accepted.ensures ∙ not-true _ c.if-not-accepted.true-raw in
     rw (c.refused.ensures, ground)
     (take_refused a.head a.pool.now a.directory.now a.index.now a.recipe.now a.job.now refuses)
 
 -- none of the grounds 1, 3 to 5, 11 and 12 holds
-passes : (c : tie.Else1) → let a = (start_of c.before.before).args in
+passes : (c : tie.Else-not-accepted) → let a = (start_of c.before.before).args in
     accepted (admission_ground a.head a.pool.now a.directory.now a.index.now a.recipe.now a.job.now) ≡ true
 passes c =
     let test = c.before in
-    sym (ap accepted test.before.admission-ground.ensures) ∙ sym test.accepted.ensures ∙ not-false _ c.if1.false
+    sym (ap accepted test.admission_ground-ground.ensures) ∙ sym test.accepted.ensures ∙ not-false _ c.if-not-accepted.false-raw
 
 -- the job's numbers are bytes
-bytes : (c : tie.Else1) → Bytes (start_of c.before.before).args.job.now
+bytes : (c : tie.Else-not-accepted) → Bytes (start_of c.before.before).args.job.now
 bytes c =
     all_bytes (start_of c.before.before).args.job.now
-    (λ i. omega (arith, c.before.before.before.before.before.before.before.shared-slice-known.given i))
+    (λ i. omega (arith, c.shared_slice_known-1.given i))
 
 -- so the job may be surveyed
-begins-at : (c : tie.Else1) → let a = (start_of c.before.before).args in
+begins-at : (c : tie.Else-not-accepted) → let a = (start_of c.before.before).args in
     Begun a.head a.pool.now a.directory.now a.index.now a.recipe.now a.job.now
 begins-at c =
     let a = (start_of c.before.before).args in
     begins a.head a.pool.now a.directory.now a.index.now a.recipe.now a.job.now (passes c)
 
-survey-requires : tie.Need-survey-requires
-survey-requires c κs = begins-at c.before.before.before.before
+survey-requires : tie.Need-survey-surveyed-requires
+survey-requires c κs = begins-at c.before
 
 -- what the survey leaves
-surveys : (c : tie.After-survey) → let a = (start_of (tested-of c).before.before).args in
-    record { refusal = c.survey.result.refusal; snapshot = snapshot c.survey.result.progress c.survey.new.1.1.1.1.0 }
+surveys : (c : tie.After-survey-surveyed) → let a = (start_of (tested-of c).before.before).args in
+    record { refusal = c.survey-surveyed.result.refusal; snapshot = snapshot c.survey-surveyed.result.progress c.survey-surveyed.new.recipe }
     ≡ survey a.head a.pool.now a.directory.now a.index.now a.recipe.now a.job.now (passes (tested-of c))
 unfolding surveyed
-surveys c = c.survey.ensures.0
+surveys c = c.survey-surveyed.ensures.0
 
-cast-used : tie.Need-overflow-cast-used
+cast-used : tie.Need-overflow_cast-used
 cast-used c = search rules
 
 accepted-requires-2 : tie.Need-accepted-requires-2
 accepted-requires-2 c κs = search rules
 
 -- its marks may be settled
-settleable : (c : tie.After-survey) → let a = (start_of (tested-of c).before.before).args in
+settleable : (c : tie.After-survey-surveyed) → let a = (start_of (tested-of c).before.before).args in
     Settleable a.head
-    (record { refusal = c.survey.result.refusal; snapshot = snapshot c.survey.result.progress c.survey.new.1.1.1.1.0 })
+    (record { refusal = c.survey-surveyed.result.refusal; snapshot = snapshot c.survey-surveyed.result.progress c.survey-surveyed.new.recipe })
 settleable c =
     let a = (start_of (tested-of c).before.before).args in
     let b = begins-at (tested-of c) in
@@ -116,46 +116,46 @@ settleable c =
     )
 
 settle-requires : tie.Need-settle-requires
-settle-requires c κs = settleable (call-of c.before.before)
+settle-requires c κs = settleable (call-of c.before.before.before)
 
-refused-requires-2 : tie.Need-refused-requires-2
+refused-requires-2 : tie.Need-refused-requires-then-not-accepted-2
 refused-requires-2 c κs = search rules
 
-same-length-5 : tie.Need-same-length-5
+same-length-5 : tie.Need-shape_of-pool-then-not-accepted-2
 same-length-5 c = search rules
 
-same-length-6 : tie.Need-same-length-6
+same-length-6 : tie.Need-shape_of-directory-then-not-accepted-2
 same-length-6 c = search rules
 
-same-length-7 : tie.Need-same-length-7
+same-length-7 : tie.Need-shape_of-index-then-not-accepted-2
 same-length-7 c = search rules
 
-same-length-8 : tie.Need-same-length-8
+same-length-8 : tie.Need-shape_of-recipe-then-not-accepted-2
 same-length-8 c = search rules
 
-returns-2 : tie.Need-returns-2
+returns-2 : tie.Need-returns-then-not-accepted-2
 returns-2 c =
     let settle = c.before.before.before in
-    let stop = settle.before.before in
+    let stop = settle.before.before.before in
     let call = call-of stop.before in
     let a = (start_of (tested-of call).before.before).args in
-    let stops = sym (ap (λ o. accepted o.refusal) (surveys call)) ∙ sym stop.before.accepted2.ensures ∙ not-true _ stop.if2.true in
-    rw (c.refused2.ensures, settle.settle.ensures)
+    let stops = sym (ap (λ o. accepted o.refusal) (surveys call)) ∙ sym stop.accepted-2.ensures ∙ not-true _ stop.if-not-accepted-2.true-raw in
+    rw (c.refused-then-not-accepted-2.ensures, settle.settle.ensures)
     (ap (stopped_to a.head a.pool.now a.directory.now a.index.now) (surveys call)
     ∙ take_stopped a.head a.pool.now a.directory.now a.index.now a.recipe.now a.job.now (passes (tested-of call))
     (bytes (tested-of call)) stops)
 
 -- no chunk is refused
-walks : (c : tie.Else2) → let call = call-of c.before in
+walks : (c : tie.Else-not-accepted-2) → let call = call-of c.before in
     let a = (start_of (tested-of call).before.before).args in
     accepted (survey a.head a.pool.now a.directory.now a.index.now a.recipe.now a.job.now (passes (tested-of call))).refusal ≡ true
 walks c =
     let call = call-of c.before in
-    sym (ap (λ o. accepted o.refusal) (surveys call)) ∙ sym c.before.accepted2.ensures ∙ not-false _ c.if2.false
+    sym (ap (λ o. accepted o.refusal) (surveys call)) ∙ sym c.accepted-2.ensures ∙ not-false _ c.if-not-accepted-2.false-raw
 
-store-new-requires : tie.Need-store-new-requires
+store-new-requires : tie.Need-store_new-requires
 store-new-requires c κs =
-    let passed = c.before.before.before.before in
+    let passed = c.before.before.before in
     let call = call-of passed.before in
     let a = (start_of (tested-of call).before.before).args in
     subst (λ (o : Outcome). Storable a.head a.pool.now a.directory.now a.index.now o.snapshot.recipe o.snapshot.progress.recipe_length a.job.now)
@@ -164,45 +164,45 @@ store-new-requires c κs =
     (bytes (tested-of call)) (walks passed))
 
 settle-requires-2 : tie.Need-settle-requires-2
-settle-requires-2 c κs = settleable (call-of (passed-of c.before.before.before.before.before.before.before).before)
+settle-requires-2 c κs = settleable (call-of (passed-of c.before.before.before.before.before.before.before.before).before)
 
 answered-requires : tie.Need-answered-requires
 answered-requires c κs =
     let settle = c.before.before in
-    let stored = settle.before.before.before.before.before.before.before.before in
+    let stored = settle.before.before.before.before.before.before.before.before.before in
     (begins-at (tested-of (call-of (passed-of stored).before))).job_length
 
-head-after-requires : tie.Need-head-after-requires
+head-after-requires : tie.Need-head_after-requires
 head-after-requires c κs = search rules
 
-same-length-9 : tie.Need-same-length-9
+same-length-9 : tie.Need-shape_of-pool
 same-length-9 c = search rules
 
-same-length-10 : tie.Need-same-length-10
+same-length-10 : tie.Need-shape_of-directory
 same-length-10 c = search rules
 
-same-length-11 : tie.Need-same-length-11
+same-length-11 : tie.Need-shape_of-index
 same-length-11 c = search rules
 
-same-length-12 : tie.Need-same-length-12
+same-length-12 : tie.Need-shape_of-recipe
 same-length-12 c =
     let settle = c.before.before.before.before in
-    let stored = settle.before.before.before.before.before.before.before.before in
-    settle.settle2.auto.0 ∙ (call-of (passed-of stored).before).survey.auto.1.1.1.1.0
+    let stored = settle.before.before.before.before.before.before.before.before.before in
+    settle.settle-2.auto.recipe ∙ (call-of (passed-of stored).before).survey-surveyed.auto.recipe
 
-returns-3 : tie.Need-returns-3
+returns-3 : tie.Need-returns
 unfolding stored
 returns-3 c =
     let settle = c.before.before.before.before in
-    let stored = settle.before.before.before.before.before.before.before.before in
+    let stored = settle.before.before.before.before.before.before.before.before.before in
     let call = call-of (passed-of stored).before in
     let a = (start_of (tested-of call).before.before).args in
-    let pool = ap (λ s. s.pool) stored.store-new.ensures in
-    let directory = ap (λ s. s.directory) stored.store-new.ensures in
-    let index = ap (λ s. s.index) stored.store-new.ensures in
-    let told = call.survey.result in
-    let cuts = answered_cuts (length a.job.now) told.refusal told.progress told.cuts (cut_counts a.head.window a.job.now) call.survey.ensures.1 in
-    rw (c.head-after.ensures, settle.settle2.ensures, pool, directory, index, c.before.answered.ensures ∙ cuts)
+    let pool = ap (λ s. s.pool) stored.store_new.ensures in
+    let directory = ap (λ s. s.directory) stored.store_new.ensures in
+    let index = ap (λ s. s.index) stored.store_new.ensures in
+    let told = call.survey-surveyed.result in
+    let cuts = answered_cuts (length a.job.now) told.refusal told.progress told.cuts (cut_counts a.head.window a.job.now) call.survey-surveyed.ensures.1 in
+    rw (c.head_after.ensures, settle.settle-2.ensures, pool, directory, index, c.answered.ensures ∙ cuts)
     (ap (λ (o : Outcome). stored_to a.head a.pool.now a.directory.now a.index.now a.job.now (new_in a.job.now o) o) (surveys call)
     ∙ take_walked a.head a.pool.now a.directory.now a.index.now a.recipe.now a.job.now (passes (tested-of call))
     (bytes (tested-of call)) (walks (passed-of stored)))
