@@ -9,102 +9,102 @@ use Rattle.listing_frames.proofs.laws.chunks.Walking.{Walking, Found, mark_most,
 use Rattle.listing_frames.proofs.chunks.frames.Statement.{statement}
 use Rattle.listing_frames.proofs.chunks.frames.Tie as tie
 
-abbrev invariant-loop : tie.invariant-loop
+abbrev invariant-loop : tie.invariant-loop-at
 invariant-loop job recipe output₀ next₀ used₀ at₀ output next used at =
     Walking job recipe output₀ output next used at
 
-abbrev decreases-loop : tie.decreases-loop
+abbrev decreases-loop : tie.decreases-loop-at
 decreases-loop job recipe output₀ next₀ used₀ at₀ output next used at = length job - at
 
-loop-holds : tie.Need-loop-init invariant-loop decreases-loop
+loop-holds : tie.Need-loop-at-init invariant-loop decreases-loop
 loop-holds c = walks_out _ _ _
 
-sub-next-chunk : tie.Need-overflow-sub-next-chunk invariant-loop decreases-loop
+sub-next-chunk : tie.Need-slice_bounds-next_chunk-count invariant-loop decreases-loop
 sub-next-chunk c = omega arith
 
-part-next-chunk-start : tie.Need-slice-bounds-next-chunk-start invariant-loop decreases-loop
+part-next-chunk-start : tie.Need-slice_bounds-next_chunk-start invariant-loop decreases-loop
 part-next-chunk-start c = omega arith
 
-part-next-chunk-end : tie.Need-slice-bounds-next-chunk-end invariant-loop decreases-loop
+part-next-chunk-end : tie.Need-slice_bounds-next_chunk-end invariant-loop decreases-loop
 part-next-chunk-end c = omega arith
 
-next-chunk-requires : tie.Need-next-chunk-requires invariant-loop decreases-loop
+next-chunk-requires : tie.Need-next_chunk-chunk-requires invariant-loop decreases-loop
 next-chunk-requires c κs = search rules
 
 -- an iteration takes the first chunk of what the job has left
-found : (c : tie.After-next-chunk invariant-loop decreases-loop) → let start = c.before.before.before.before.before.before.before in let loop = c.before.before.before.loop in
-    Found start.args.job.now start.args.recipe.now loop.used loop.at c.next-chunk.result.length
-found c = finds c.before.before.before.loop.invariant c.before.before.loop-test.true c.before.before.before.before.before.before.before.requires.1.0 _ (ap (λ f. f.length) c.next-chunk.ensures)
+found : (c : tie.After-next_chunk-chunk invariant-loop decreases-loop) → let start = c.before.before.before.before.before.before.before in let loop = c.loop-at in
+    Found start.args.job.now start.args.recipe.now loop.used loop.at c.next_chunk-chunk.result.length
+found c = finds c.loop-at.invariant c.loop-at-test.true c.requires.1.0 _ (ap (λ f. f.length) c.next_chunk-chunk.ensures)
 
-mul-number : tie.Need-overflow-mul-number invariant-loop decreases-loop
+mul-number : tie.Need-offset_bounds-recipe-used invariant-loop decreases-loop
 mul-number c = omega (arith, found c)
 
-shared-slice-read-number : tie.Need-shared-slice-read-number invariant-loop decreases-loop
+shared-slice-read-number : tie.Need-bounds-recipe-used invariant-loop decreases-loop
 shared-slice-read-number c = omega (arith, found c.before)
 
-mark-requires : tie.Need-mark-requires invariant-loop decreases-loop
+mark-requires : tie.Need-mark-new-requires invariant-loop decreases-loop
 mark-requires c κs = search rules
 
-mul-chunk-frame : tie.Need-overflow-mul-chunk-frame invariant-loop decreases-loop
-mul-chunk-frame c = omega (arith, c.before.before.before.before.before.before.loop.invariant)
+mul-chunk-frame : tie.Need-overflow_mul-used invariant-loop decreases-loop
+mul-chunk-frame c = omega (arith, c.loop-at.invariant)
 
-cast-next : tie.Need-overflow-cast-next invariant-loop decreases-loop
-cast-next c = omega (arith, c.before.before.before.before.before.before.loop.invariant)
+cast-next : tie.Need-overflow_cast-at invariant-loop decreases-loop
+cast-next c = omega (arith, c.loop-at.invariant)
 
-cast-chunk-frame : tie.Need-overflow-cast-chunk-frame invariant-loop decreases-loop
+cast-chunk-frame : tie.Need-overflow_cast-size invariant-loop decreases-loop
 cast-chunk-frame c = omega (arith, found c.before.before.before)
 
-chunk-frame-requires : tie.Need-chunk-frame-requires invariant-loop decreases-loop
+chunk-frame-requires : tie.Need-chunk_frame-requires invariant-loop decreases-loop
 chunk-frame-requires c κs = omega (arith, found c.before.before.before)
 
 -- a chunk counts as one new chunk at most
-one : (c : tie.After-slice-known2 invariant-loop decreases-loop) → c.before.before.before.before.mark.result ≤ 1
+one : (c : tie.After-slice_known-in-loop-at-1 invariant-loop decreases-loop) → c.mark-new.result ≤ 1
 one c =
     let looped = c.before.before.before.before.before.before.before.before.before in
     let start = looped.before.before.before.before in
-    rw c.before.before.before.before.mark.ensures
-    (mark_most (get_or start.args.recipe.now looped.loop.used 0) looped.loop.next)
+    rw c.mark-new.ensures
+    (mark_most (get_or start.args.recipe.now looped.loop-at.used 0) looped.loop-at.next)
 
-cast-next-2 : tie.Need-overflow-cast-next-2 invariant-loop decreases-loop
+cast-next-2 : tie.Need-overflow_cast-next invariant-loop decreases-loop
 cast-next-2 c = omega (arith, one c)
 
-add-next : tie.Need-overflow-add-next invariant-loop decreases-loop
+add-next : tie.Need-overflow_add-next invariant-loop decreases-loop
 add-next c =
-    let loop = c.before.before.before.before.before.before.before.before.before.loop in
+    let loop = c.loop-at in
     omega (arith, loop.invariant, one c)
 
-add-used : tie.Need-overflow-add-used invariant-loop decreases-loop
+add-used : tie.Need-overflow_add-used invariant-loop decreases-loop
 add-used c =
-    let loop = c.before.before.before.before.before.before.before.before.before.loop in
+    let loop = c.loop-at in
     omega (arith, loop.invariant)
 
-add_at : tie.Need-overflow-add-at invariant-loop decreases-loop
+add_at : tie.Need-overflow_add-at invariant-loop decreases-loop
 add_at c = omega (arith, found c.before.before.before.before.before.before)
 
-loop-less : tie.Need-loop-smaller invariant-loop decreases-loop
+loop-less : tie.Need-loop-at-smaller invariant-loop decreases-loop
 loop-less c = omega (arith, found c.before.before.before.before.before.before)
 
-loop-again : tie.Need-loop-preserved invariant-loop decreases-loop
+loop-again : tie.Need-loop-at-preserved invariant-loop decreases-loop
 loop-again c =
-    let loop = c.before.before.before.before.before.before.before.before.before.loop in
-    let marked = c.before.before.before.before.mark in
-    let written = c.before.before.chunk-frame in
+    let loop = c.loop-at in
+    let marked = c.mark-new in
+    let written = c.chunk_frame in
     let on = walks_on loop.invariant (found c.before.before.before.before.before.before) in
-    on written.new.0 marked.result marked.ensures written.ensures.1
+    on written.new.output marked.result marked.ensures written.ensures.1
 
-mul-result : tie.Need-overflow-mul-result invariant-loop decreases-loop
-mul-result c = omega (arith, c.before.loop.invariant)
+mul-result : tie.Need-overflow_mul-result invariant-loop decreases-loop
+mul-result c = omega (arith, c.loop-at.invariant)
 
-same_length : tie.Need-same-length invariant-loop decreases-loop
-same_length c = c.before.loop.invariant.kept
+same_length : tie.Need-shape_of-output invariant-loop decreases-loop
+same_length c = c.loop-at.invariant.kept
 
 returns : tie.Need-returns invariant-loop decreases-loop
 returns c =
-    let done = walks_all c.before.loop.invariant c.loop-test.false in
-    (ap (λ n. frame_bytes * n) done, walks_ends c.before.loop.invariant c.loop-test.false)
+    let done = walks_all c.loop-at.invariant c.loop-at-test.false in
+    (ap (λ n. frame_bytes * n) done, walks_ends c.loop-at.invariant c.loop-at-test.false)
 
-pub frames-spec : {M : Type 1} → statement M
-frames-spec =
+pub frames_spec : {M : Type 1} → statement M
+frames_spec =
     tie.close
     (tie.spec
     invariant-loop
