@@ -4,8 +4,7 @@ ghost use Rattle.hirunvel.specs.Rebuilding.{job_rebuilt};
 
 // Writes the chunks that a recipe names to the output and tells how many bytes they are. Refused by
 // grounds 1, 4, 5, 9 and 10, with the output untouched and 0 told.
-#[unsafe(no_mangle)]
-pub extern "C" fn hirunvel_rebuild(
+pub fn hirunvel_rebuild(
     head: &[u32; 3],
     pool: &[u8],
     directory: &[u32],

@@ -6,8 +6,7 @@ ghost use Rattle.hirunvel.specs.internal.Fresh.{handed_over};
 use scan::Fed;
 
 // Opens a scanner. Refused by ground 1, with all zeros.
-#[unsafe(no_mangle)]
-pub extern "C" fn hirunvel_scanner_open(window: u32, scanner: &mut [u32; 4]) -> u32
+pub fn hirunvel_scanner_open(window: u32, scanner: &mut [u32; 4]) -> u32
     ensures { record { refusal = result; scanner = scanner.new } ≡ scanner_opened window }
 {
     let answer = chunker::open(window);
@@ -20,12 +19,7 @@ pub extern "C" fn hirunvel_scanner_open(window: u32, scanner: &mut [u32; 4]) -> 
 // the chunk's maximum point. Refused by grounds 1 and 2, with the scanner untouched and zeros told. Fed once per chunk, a
 // scanner is fresh at each call: a small window then takes a fast path, byte by byte. What is refused or empty goes the
 // other way, and the part is lent on as a slice of its own, so that the fast path needs few registers.
-#[unsafe(no_mangle)]
-pub extern "C" fn hirunvel_scanner_feed(
-    scanner: &mut [u32; 4],
-    part: &[u8],
-    fed: &mut [u64; 4],
-) -> u32
+pub fn hirunvel_scanner_feed(scanner: &mut [u32; 4], part: &[u8], fed: &mut [u64; 4]) -> u32
     ensures { record { refusal = result; scanner = scanner.new; fed = fed.new }
         ≡ scanner_fed scanner.old part.now }
 {
@@ -91,8 +85,7 @@ fn hand_over(answer: Fed, scanner: &mut [u32; 4], fed: &mut [u64; 4]) -> u32
 
 // Ends a job: tells the length of the last chunk, which no cut has ended. Refused by grounds 1 and 2,
 // with the scanner untouched and 0 told.
-#[unsafe(no_mangle)]
-pub extern "C" fn hirunvel_scanner_finish(scanner: &mut [u32; 4], count: &mut u64) -> u32
+pub fn hirunvel_scanner_finish(scanner: &mut [u32; 4], count: &mut u64) -> u32
     ensures { record { refusal = result; scanner = scanner.new; count = count.new }
         ≡ scanner_finished scanner.old }
 {

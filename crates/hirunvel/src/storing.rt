@@ -5,8 +5,7 @@ ghost use Rattle.hirunvel.specs.Storing.{store_opened, store_quoted, store_taken
 use store::ChunkNumber;
 
 // Opens a store. Refused by ground 1, with all zeros.
-#[unsafe(no_mangle)]
-pub extern "C" fn hirunvel_store_open(window: u32, head: &mut [u32; 3]) -> u32
+pub fn hirunvel_store_open(window: u32, head: &mut [u32; 3]) -> u32
     ensures { record { refusal = result; head = head.new } ≡ store_opened window }
 {
     let answer = store::open(window);
@@ -17,8 +16,7 @@ pub extern "C" fn hirunvel_store_open(window: u32, head: &mut [u32; 3]) -> u32
 
 // Quotes a job: tells the recipe's length, the new and the repeated bytes, the cuts of each kind, and the saving, and writes
 // only the recipe. Refused by grounds 1, 3 to 8, 11 and 12, with zeros told.
-#[unsafe(no_mangle)]
-pub extern "C" fn hirunvel_store_quote(
+pub fn hirunvel_store_quote(
     head: &[u32; 3],
     pool: &[u8],
     directory: &[u32],
@@ -45,8 +43,7 @@ pub extern "C" fn hirunvel_store_quote(
 
 // Takes a job: tells what its quote tells, and stores its new chunks. Refused by grounds 1, 3 to 8, 11 and 12, with head,
 // pool, directory and index untouched and zeros told.
-#[unsafe(no_mangle)]
-pub extern "C" fn hirunvel_store_take(
+pub fn hirunvel_store_take(
     head: &mut [u32; 3],
     pool: &mut [u8],
     directory: &mut [u32],
@@ -81,8 +78,7 @@ pub extern "C" fn hirunvel_store_take(
 
 // Tells a chunk's offset in the pool and its length. Refused by grounds 1, 4, 5 and 9, with zeros
 // told.
-#[unsafe(no_mangle)]
-pub extern "C" fn hirunvel_store_look(
+pub fn hirunvel_store_look(
     head: &[u32; 3],
     pool: &[u8],
     directory: &[u32],

@@ -9,32 +9,32 @@ use Rattle.hirunvel.specs.Storing.{store_quoted}
 use Rattle.hirunvel.proofs.storing.hirunvel_store_quote.Statement.{statement}
 use Rattle.hirunvel.proofs.storing.hirunvel_store_quote.Tie as tie
 
-head-of-requires : tie.Need-head-of-requires
+head-of-requires : tie.Need-head_of-requires
 head-of-requires c κs = search rules
 
-quote-requires : tie.Need-quote-requires
+quote-requires : tie.Need-quote-answer-requires
 quote-requires c κs = search rules
 
-of-counts-requires : tie.Need-of-counts-requires
+of-counts-requires : tie.Need-of_counts-requires
 of-counts-requires c κs = search rules
 
-of-refusal-requires : tie.Need-of-refusal-requires
+of-refusal-requires : tie.Need-of_refusal-requires
 of-refusal-requires c κs = search rules
 
-same_length : tie.Need-same-length
+same_length : tie.Need-shape_of-recipe
 same_length c = search rules
 
 -- what the call answers and leaves
-abbrev left_by : tie.After-quote → Quotation
-left_by c = record { answer = c.quote.result; recipe = c.quote.new.1.1.1.1.0 }
+abbrev left_by : tie.After-quote-answer → Quotation
+left_by c = record { answer = c.quote-answer.result; recipe = c.quote-answer.new.recipe }
 
 -- for the head of the lent numbers
-done : (c : tie.After-quote) → let a = c.before.before.before.before.before.before.before.before.before.args in
+done : (c : tie.After-quote-answer) → let a = c.args in
     left_by c ≡ quoted (head_of a.head.now) a.pool.now a.directory.now a.index.now a.recipe.now a.job.now
-done c = rw c.before.before.head-of.ensures at c.quote.ensures
+done c = rw c.head_of.ensures at c.quote-answer.ensures
 
 -- the saving is kept whole in its 64 bits
-kept : (c : tie.After-saving) → let z = c.before.before.before.before.before.quote.result.saving in to_z w64 (of_z w64 z) ≡ z
+kept : (c : tie.After-saving-1) → let z = c.quote-answer.result.saving in to_z w64 (of_z w64 z) ≡ z
 kept c = search rules
 
 returns : tie.Need-returns
@@ -42,10 +42,10 @@ unfolding store_quoted
 returns c =
     let counted = c.before.before.before in
     let quote = counted.before.before.before in
-    rw (← (done quote), c.of-refusal.ensures, counted.of-counts.ensures, kept c.before)
+    rw (← (done quote), c.of_refusal.ensures, counted.of_counts.ensures, kept c.before)
 
-pub hirunvel-store-quote-spec : {M : Type 1} → statement M
-hirunvel-store-quote-spec =
+pub hirunvel_store_quote_spec : {M : Type 1} → statement M
+hirunvel_store_quote_spec =
     tie.close
     (tie.spec
     head-of-requires

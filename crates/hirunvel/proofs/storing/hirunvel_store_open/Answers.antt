@@ -1,0 +1,10 @@
+-- `hirunvel::storing::hirunvel_store_open` meets its contract.
+use borrow.Author.Rules.{rules}
+use Rattle.hirunvel.specs.Storing.{store_opened}
+use Rattle.hirunvel.proofs.storing.hirunvel_store_open.Goals as goal
+
+pub returns : goal.returns
+unfolding store_opened
+returns c =
+    let opening = c.open-answer.ensures in
+    rw (c.of_refusal.ensures, c.of_head.ensures, opening)
