@@ -115,9 +115,9 @@ calls_feeding (finishing {n} {since} r t) =
     splitting.finishing {s = scanner_of n} {since = since} c.0 (sym c.1 ∙ t)
 
 -- numbers of a scanner whose value is a byte are accepted as the scanner is
-numbers_of : (s : Scanner) → s.value < 256 → numbers_ground (numbers_of s) ≡ scanner_ground s
+numbers_of_lem : (s : Scanner) → s.value < 256 → numbers_ground (numbers_of s) ≡ scanner_ground s
 unfolding numbers_ground scanner_ground
-numbers_of s h = rw (le-leb s.value 255 (omega arith))
+numbers_of_lem s h = rw (le-leb s.value 255 (omega arith))
 
 -- feeding bytes leaves a byte for the value
 value_byte : (s : Scanner) (part : List ℕ) → s.value < 256 → Bytes part → scanner_ground s ≡ Accepted
@@ -139,7 +139,7 @@ pub feeding_calls : {s : Scanner} {since : List ℕ} {parts cs : List (List ℕ)
 unfolding scanner_fed scanner_finished finished
 feeding_calls (splitting.cutting {s} {since} {part} {parts} {cs} {ps} r c g) h k =
     let accepts = sym (fed_ground s part) ∙ r in
-    let ground = numbers_of s h ∙ accepts in
+    let ground = numbers_of_lem s h ∙ accepts in
     let b = bytes_parts part (joined parts) k in
     let f = fed s part in
     let rest = feeding_calls g (value_byte s part h b.0 accepts)
@@ -148,7 +148,7 @@ feeding_calls (splitting.cutting {s} {since} {part} {parts} {cs} {ps} r c g) h k
     (rw (ground, c)) (rw ground rest)
 feeding_calls (splitting.passing {s} {since} {part} {parts} {cs} {ps} r c n g) h k =
     let accepts = sym (fed_ground s part) ∙ r in
-    let ground = numbers_of s h ∙ accepts in
+    let ground = numbers_of_lem s h ∙ accepts in
     let b = bytes_parts part (joined parts) k in
     let none = untold s part c in
     let place : (fed s part).place ≡ 0 = ap (λ p. p.place) none in
@@ -156,7 +156,7 @@ feeding_calls (splitting.passing {s} {since} {part} {parts} {cs} {ps} r c n g) h
     passing {n = numbers_of s} {since = since} {part = part} {parts = parts} {cs = cs} {ps = ps} (rw ground) (rw (ground, c, n, place, value))
     (rw ground (feeding_calls g (value_byte s part h b.0 accepts) b.1))
 feeding_calls (splitting.finishing {s} {since} r n) h k =
-    let ground = numbers_of s h ∙ finish_accepts s r in
+    let ground = numbers_of_lem s h ∙ finish_accepts s r in
     finishing {n = numbers_of s} {since = since} (rw ground) (rw (ground, finish_accepts s r) (rw (finish_accepts s r) at n))
 
 -- from hirunvel_scanner_open on

@@ -18,11 +18,11 @@ use Rattle.promises.proofs.laws.Events.{told_at, named_at, start_fits}
 use Rattle.promises.proofs.theorems.SeveralFields.{several_fields}
 
 -- the numbers of the chunks that start after a place
-numbers_after : (number : List ℕ → ℕ) (n : ℕ) (cs : List (List ℕ))
+numbers_after_lem : (number : List ℕ → ℕ) (n : ℕ) (cs : List (List ℕ))
     → numbers_after n cs (map number cs) ≡ map number (starting_after n cs)
-numbers_after number n [] = refl
-numbers_after number zero (c ∷ cs) = refl
-numbers_after number (suc n) (c ∷ cs) = numbers_after number (suc n - length c) cs
+numbers_after_lem number n [] = refl
+numbers_after_lem number zero (c ∷ cs) = refl
+numbers_after_lem number (suc n) (c ∷ cs) = numbers_after_lem number (suc n - length c) cs
 
 -- "It is a single claim about the whole list": of each job that is taken, each later quote or take of a revision "whether or not
 -- the revision is ever taken", each division and each kept maximum; its ceiling is that of a single field
@@ -48,8 +48,8 @@ promise w pool directory events bytes i j l beginning replaced changed ending ol
     let old_recipe = named.numbers ∙ sym (numbers_grown held (chunks w new_job) (chunks w old_job) named.among) in
     let n = length (beginning ++ replaced) + (k + w) in
     let m = length (beginning ++ changed) + (k + w) in
-    let old_numbers = ap (numbers_after n (chunks w old_job)) old_recipe ∙ numbers_after after n (chunks w old_job) in
-    let new_numbers = ap (numbers_after m (chunks w new_job)) told.tells.recipe ∙ numbers_after after m (chunks w new_job) in
+    let old_numbers = ap (numbers_after n (chunks w old_job)) old_recipe ∙ numbers_after_lem after n (chunks w old_job) in
+    let new_numbers = ap (numbers_after m (chunks w new_job)) told.tells.recipe ∙ numbers_after_lem after m (chunks w new_job) in
     record {
       ceiling = omega (arith, charge);
       lined_up = lined;
