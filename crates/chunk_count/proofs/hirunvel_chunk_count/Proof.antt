@@ -27,15 +27,15 @@ accepted-requires c κs = search rules
 returns : tie.Need-returns-then-not-accepted invariant-loop decreases-loop
 unfolding chunk_count
 returns c =
-    let opening = opened_accepted _ _ c.before.before.«open».ensures in
+    let opening = opened_accepted _ _ c.open-opened.ensures in
     rw (sym opening ∙ (sym c.before.accepted.ensures ∙ not-true _ c.if-not-accepted.true-raw))
 
 loop-holds : tie.Need-loop-rest-init invariant-loop decreases-loop
 loop-holds c =
-    let opening = c.before.before.before.«open».ensures in
+    let opening = c.open-opened.ensures in
     let test = sym c.before.before.accepted.ensures ∙ not-false _ c.before.if-not-accepted.false-raw in
     let allowed = sym (opened_accepted _ _ opening) ∙ test in
-    (ap (λ o. o.scanner-1) opening ∙ opened_fresh _ allowed, sets_out _ _ allowed)
+    (ap (λ o. o.scanner) opening ∙ opened_fresh _ allowed, sets_out _ _ allowed)
 
 feed-requires : tie.Need-feed-fed-requires invariant-loop decreases-loop
 feed-requires c κs = search rules
