@@ -5,8 +5,6 @@ ghost use Rattle.std.specs.Prelude.{◌≡◌, ◌<◌};
 ghost use Rattle.gear.specs.Gear.{next};
 ghost use Rattle.gear_table.specs.Line.{digit_at, line};
 
-use libc::STDOUT_FILENO;
-
 // Entry 0 of the table.
 const FIRST_ENTRY: u32 = 270369;
 
@@ -51,23 +49,22 @@ fn line(entry: u32) -> [u8; 9]
 
 // Writes a text to standard output, and tells whether that succeeds, with a message on standard error
 // if not.
-fn print(text: &[u8]) -> bool {
-    let written = io::write_all(STDOUT_FILENO, text);
-    if !written {
-        os::fail(b"gear_table: standard output");
+fn print(rt: &(impl Print + Eprint), text: &[u8]) -> bool {
+    match rt.write_all(text) {
+        Ok(()) => true,
+        Err(error) => {
+            let _ = eprintln!(rt; "gear_table: standard output: {error}");
+            false
+        }
     }
-    written
 }
 
-fn main() {
+fn main(rt: HostRuntime) {
     let mut entry = FIRST_ENTRY;
-    let mut i = 0;
-    while i < ENTRIES {
-        let text = line(entry);
-        if !print(&text) {
+    for _ in 0..ENTRIES {
+        if !print(&rt, &line(entry)) {
             return;
         }
         entry = next(entry);
-        i += 1;
     }
 }
