@@ -24,21 +24,17 @@ fn allowed(accepted: bool, consumed: usize, cut: bool, rest: usize) -> bool
 fn fed_allowed(fed: Fed, rest: usize) -> bool
     ensures { result ≡ true → fed.consumed ≤ rest }
 {
-    if !fed.cut {
-        if fed.place != 0 || fed.value != 0 {
-            return false;
-        }
+    if !fed.cut && (fed.place != 0 || fed.value != 0) {
+        return false;
     }
-    let refusal = fed.refusal;
-    allowed(refusal::accepted(refusal), fed.consumed, fed.cut, rest)
+    allowed(refusal::accepted(fed.refusal), fed.consumed, fed.cut, rest)
 }
 
 // Ends the list with the last chunk, which has to be as long as the `open` bytes since the last cut.
 fn finish(scanner: Scanner, open: usize, list: &mut [usize], count: usize) {
     let answer = chunker::finish(scanner);
-    let refusal = answer.refusal;
     let last = answer.count as usize;
-    if !allowed(refusal::accepted(refusal), last, false, open) {
+    if !allowed(refusal::accepted(answer.refusal), last, false, open) {
         list::end(list, list.len(), last);
         return;
     }
@@ -54,27 +50,24 @@ fn chunks(job: &[u8], window: u32, seed: u32, list: &mut [usize]) {
     let mut at = 0;
     let mut open = 0;
     let mut count = 0;
-    let mut parts = 0u32;
-    while parts < 100_000 {
+    for _ in 0..100_000 {
         random = random::next(random);
         let end = at + random::up_to(random, 1 << (seed % 14), job.len() - at);
         let fed = chunker::feed(scanner, &job[at..end]);
         if !fed_allowed(fed, end - at) {
             break;
         }
-        let moved = fed.scanner;
+        scanner = fed.scanner;
         if at == job.len() {
-            finish(moved, open, list, count);
+            finish(scanner, open, list, count);
             return;
         }
-        scanner = moved;
         at += fed.consumed;
-        open = std::num::wrapping_add_usize(open, fed.consumed);
+        open = open.wrapping_add(fed.consumed);
         if fed.cut {
             count = list::add_cut(list, count, open, fed.place as usize, fed.value);
             open = 0;
         }
-        parts += 1;
     }
     list::end(list, list.len(), 0);
 }
@@ -92,14 +85,12 @@ pub fn compared(
     ensures { result ≡ Difference.Nowhere → 1 ≤ splittings → Same expected.now found.new }
 {
     let mut random = seed;
-    let mut turn = 0;
-    while turn < splittings {
+    for _ in 0..splittings {
         random = random::next(random);
         chunks(job, window, random, found);
         if let Difference::At(place) = difference::first_difference(expected, found) {
             return Difference::At(place);
         }
-        turn += 1;
     }
     Difference::Nowhere
 }

@@ -1,24 +1,32 @@
 // The jobs that the customer's scope and the readings of it work by hand.
 use crate::tally::Tally;
 use crate::{feeding, method, random, tally};
-use libc::STDOUT_FILENO;
 
 // Compares both cutters with the list that is stated of a job. No list here has more than 16 numbers.
-fn stated(tally: Tally, window: u32, job: &[u8], expected: &[usize]) -> Tally {
+fn stated(rt: &impl Print, tally: Tally, window: u32, job: &[u8], expected: &[usize]) -> Tally {
     let mut found = [0usize; 17];
     method::chunks(job, window as usize, &mut found);
     let count = found[0];
     let cutter = difference::first_difference(expected, &found);
     let scanner = feeding::compared(job, window, 1, 64, expected, &mut found);
+    tally::print_difference(rt, cutter);
+    tally::print_difference(rt, scanner);
     tally::counted(tally::counted(tally, count, cutter), count, scanner)
 }
 
 // Twelve bytes 41, the empty job, and a job that tells whether the largest byte is carried across a
 // cut.
-fn others(tally: Tally) -> Tally {
-    let mut t = stated(tally, 4, b"AAAAAAAAAAAA", &[7, 5, 1, 0x41, 5, 1, 0x41, 2]);
-    t = stated(t, 3, b"", &[1, 0]);
+fn others(rt: &impl Print, tally: Tally) -> Tally {
+    let mut t = stated(
+        rt,
+        tally,
+        4,
+        b"AAAAAAAAAAAA",
+        &[7, 5, 1, 0x41, 5, 1, 0x41, 2],
+    );
+    t = stated(rt, t, 3, b"", &[1, 0]);
     stated(
+        rt,
         t,
         2,
         b"\x05\x01\x01\x01\x02\x01\x01\x01",
@@ -27,26 +35,30 @@ fn others(tally: Tally) -> Tally {
 }
 
 // Equal bytes behind different beginnings.
-fn equal_tails(tally: Tally) -> Tally {
+fn equal_tails(rt: &impl Print, tally: Tally) -> Tally {
     let mut t = stated(
+        rt,
         tally,
         2,
         b"\x05\x05\x05\x05\x05\x05\x05\x05",
         &[7, 3, 1, 5, 3, 1, 5, 2],
     );
     t = stated(
+        rt,
         t,
         2,
         b"\x09\x05\x05\x05\x05\x05\x05\x05\x05",
         &[10, 3, 1, 9, 3, 1, 5, 3, 1, 5, 0],
     );
     t = stated(
+        rt,
         t,
         2,
         b"\x09\x09\x05\x05\x05\x05\x05\x05\x05\x05",
         &[10, 3, 1, 9, 3, 1, 5, 3, 1, 5, 1],
     );
     stated(
+        rt,
         t,
         2,
         b"\x01\x05\x05\x05\x05\x05\x05\x05\x05",
@@ -56,16 +68,17 @@ fn equal_tails(tally: Tally) -> Tally {
 
 // The longest chunks of a window, where there is room for them: the 256 values in order, each
 // `window` times, give no cut, and a cut after one byte more, FF again. The first FF is then the maximum point.
-pub fn longest_chunks(window: u32, job: &mut [u8]) -> Tally {
+pub fn longest_chunks(rt: &impl Print, window: u32, job: &mut [u8]) -> Tally {
     let whole = 256 * window as usize;
     if job.len() <= whole {
         return tally::EMPTY;
     }
-    random::fill(job, random::RISE, std::num::wrapping_sub_u32(window, 1), 0);
+    random::fill(job, random::RISE, window.wrapping_sub(1), 0);
     job[whole] = 255;
-    let uncut = stated(tally::EMPTY, window, &job[..whole], &[1, whole]);
+    let uncut = stated(rt, tally::EMPTY, window, &job[..whole], &[1, whole]);
     let first = 255 * window as usize + 1;
     stated(
+        rt,
         uncut,
         window,
         &job[..whole + 1],
@@ -74,8 +87,8 @@ pub fn longest_chunks(window: u32, job: &mut [u8]) -> Tally {
 }
 
 // Compares every job that is worked by hand, and prints their line.
-pub fn worked() {
-    let tally = equal_tails(others(tally::EMPTY));
-    io::write_all(STDOUT_FILENO, b"worked by hand");
-    tally::print_counts(tally);
+pub fn worked(rt: &impl Print) {
+    let tally = equal_tails(rt, others(rt, tally::EMPTY));
+    let _ = print!(rt; "worked by hand");
+    tally::print_counts(rt, tally);
 }

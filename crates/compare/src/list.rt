@@ -4,7 +4,7 @@
 // Puts a number behind `count` others, and tells how many there are then. A number for which there is no room is
 // counted all the same: the comparison then shows a difference.
 pub fn add(list: &mut [usize], count: usize, number: usize) -> usize {
-    let next = std::num::wrapping_add_usize(count, 1);
+    let next = count.wrapping_add(1);
     if next < list.len() {
         list[next] = number;
     }

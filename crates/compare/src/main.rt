@@ -14,16 +14,9 @@ mod tally;
 
 // The windows compared are 1 to 17, 31 to 33, 48, 63 and 64. The scanner scans byte by byte below 8, and by blocks of 8, 16 and
 // 32 bytes up to 16, 32 and 64.
-fn main() {
-    handworked::worked();
-    let mut window = 1;
-    while window <= 64 {
-        generated::group(window);
-        window = match window {
-            17 => 31,
-            33 => 48,
-            48 => 63,
-            _ => window + 1,
-        };
+fn main(rt: HostRuntime) {
+    handworked::worked(&rt);
+    for window in (1..=17).chain(31..=33).chain([48, 63, 64]) {
+        generated::group(&rt, window);
     }
 }

@@ -12,20 +12,10 @@ fn maximum_point(rest: &[u8], place: usize, window: usize) -> bool
     requires window_in_bounds { place + window ≤ length rest.now }
 {
     let byte = rest[place - 1];
-    let mut other = 1;
-    while other <= place + window {
-        let value = rest[other - 1];
-        if byte < value {
-            return false;
-        }
-        if byte == value {
-            if other < place {
-                return false;
-            }
-        }
-        other += 1;
-    }
-    true
+    rest[..place - 1].iter().all(|before| *before < byte)
+        && rest[place..place + window]
+            .iter()
+            .all(|after| *after <= byte)
 }
 
 // The first place that is a maximum point of the chunk that starts with the first byte of `rest`, or 0
@@ -33,14 +23,10 @@ fn maximum_point(rest: &[u8], place: usize, window: usize) -> bool
 fn first_maximum_point(rest: &[u8], window: usize) -> usize
     ensures { result ≤ length rest.now - window }
 {
-    let mut place = 1;
-    while place <= rest.len() {
-        if window <= rest.len() - place {
-            if maximum_point(rest, place, window) {
-                return place;
-            }
+    for place in 1..=rest.len() {
+        if window <= rest.len() - place && maximum_point(rest, place, window) {
+            return place;
         }
-        place += 1;
     }
     0
 }

@@ -33,7 +33,7 @@ fn next_byte(kind: u32, before: u8, draw: usize, rarity: u32) -> u8 {
         4 => (draw % 256) as u8,
         _ => {
             if draw % (rarity as usize + 1) == 0 {
-                return std::num::wrapping_add_u8(before, 1);
+                return before.wrapping_add(1);
             }
             before
         }
@@ -44,13 +44,11 @@ fn next_byte(kind: u32, before: u8, draw: usize, rarity: u32) -> u8 {
 // value stands `rarity` + 1 times.
 pub fn fill(job: &mut [u8], kind: u32, rarity: u32, seed: u32) {
     let mut random = seed;
-    let mut byte = 255;
-    let mut i = 0;
-    while i < job.len() {
+    let mut last = 255;
+    for (i, byte) in job.iter_mut().enumerate() {
         random = next(random);
-        let draw = std::num::wrapping_add_usize(i, random as usize);
-        byte = next_byte(kind, byte, draw, rarity);
-        job[i] = byte;
-        i += 1;
+        let draw = i.wrapping_add(random as usize);
+        last = next_byte(kind, last, draw, rarity);
+        *byte = last;
     }
 }

@@ -3,7 +3,6 @@ ghost use Rattle.std.specs.Prelude.{◌≡◌, ◌+◌, ◌%◌, ◌^◌};
 ghost use Rattle.difference.specs.Difference.{differences};
 
 use difference::Difference;
-use libc::STDOUT_FILENO;
 
 // The comparisons, the numbers compared, and the comparisons with a difference.
 #[derive(Clone, Copy)]
@@ -19,33 +18,37 @@ pub const EMPTY: Tally = Tally {
     differences: 0,
 };
 
-// One comparison more. A difference is printed above the line of its group.
+// One comparison more.
 pub fn counted(tally: Tally, numbers: usize, difference: Difference) -> Tally
     ensures { result.differences ≡ (tally.differences + differences difference) % 2 ^ 64 }
 {
-    let mut one = 0;
-    if let Difference::At(place) = difference {
-        one = 1;
-        print(b"a difference at place ", place as u64);
-        io::write_all(STDOUT_FILENO, b" in\n");
-    }
+    let one = match difference {
+        Difference::Nowhere => 0,
+        Difference::At(_) => 1,
+    };
     Tally {
-        comparisons: std::num::wrapping_add_u64(tally.comparisons, 1),
-        numbers: std::num::wrapping_add_u64(tally.numbers, numbers as u64),
-        differences: std::num::wrapping_add_u64(tally.differences, one),
+        comparisons: tally.comparisons.wrapping_add(1),
+        numbers: tally.numbers.wrapping_add(numbers as u64),
+        differences: tally.differences.wrapping_add(one),
     }
 }
 
-// Prints a text and a number after it.
-pub fn print(text: &[u8], number: u64) {
-    io::write_all(STDOUT_FILENO, text);
-    io::print_decimal(STDOUT_FILENO, number);
+// Prints a text and a number after it. Like every line of this program, it is lost where standard output fails.
+pub fn print(rt: &impl Print, text: &str, number: u64) {
+    let _ = print!(rt; "{text}{number}");
+}
+
+// Prints a difference, above the line of its group; nothing where there is none.
+pub fn print_difference(rt: &impl Print, difference: Difference) {
+    if let Difference::At(place) = difference {
+        let _ = println!(rt; "a difference at place {place} in");
+    }
 }
 
 // Prints the counts, after what names the group.
-pub fn print_counts(tally: Tally) {
-    print(b": comparisons ", tally.comparisons);
-    print(b", numbers ", tally.numbers);
-    print(b", differences ", tally.differences);
-    io::write_all(STDOUT_FILENO, b"\n");
+pub fn print_counts(rt: &impl Print, tally: Tally) {
+    print(rt, ": comparisons ", tally.comparisons);
+    print(rt, ", numbers ", tally.numbers);
+    print(rt, ", differences ", tally.differences);
+    let _ = println!(rt);
 }
