@@ -4,10 +4,10 @@
 
 mod rebuilding;
 mod scanning;
-mod storing;
+mod stores;
 
 pub use rebuilding::hirunvel_rebuild;
 pub use scanning::{hirunvel_scanner_feed, hirunvel_scanner_finish, hirunvel_scanner_open};
-pub use storing::{
+pub use stores::{
     hirunvel_store_look, hirunvel_store_open, hirunvel_store_quote, hirunvel_store_take,
 };

@@ -5,11 +5,11 @@ ghost use Rattle.std.specs.Prelude.{◌≡◌};
 ghost use Rattle.refusal.specs.Number.{number_of};
 
 mod scanning;
-mod storing;
+mod stores;
 
 use refusal::Refusal;
 pub use scanning::{of_fed, of_scanner, scanner_of, unsound, untouched};
-pub use storing::{head_of, of_counts, of_head};
+pub use stores::{head_of, of_counts, of_head};
 
 // A refusal's number.
 pub fn of_refusal(refusal: Refusal) -> u32

@@ -42,7 +42,7 @@ module _ (head : Head) (pool directory index recipe job : List ℕ) where
       → (quoted head pool directory index recipe job).recipe ≡ recipe
   quote_untouched h = sym (ap (λ q. q.recipe) (quote_refused head pool directory index recipe job h))
 
-  -- and so does a take, which leaves pool, directory, index and head where it is refused on any ground (refused-leaves)
+  -- and so does a take, which leaves pool, directory, index and head where it is refused on any ground (refused_leaves)
   pub take_untouched : accepted (admission_ground head pool directory index recipe job) ≡ false
       → (taken head pool directory index recipe job).recipe ≡ recipe
   take_untouched h = ap (λ q. q.recipe) (same_quotation head pool directory index recipe job) ∙ quote_untouched h

@@ -78,7 +78,7 @@ last_from_lem c at before (f ∷ fs) = by_test (of_chain c f) refl (λ b. last_f
     by_test true e on = last_met e (on at)
     by_test false e on = last_passed e (on before)
 
--- the last of few chunks, or none, is no more than `noPlace`
+-- the last of few chunks, or none, is no more than `no_place`
 pub last_small : (c : ℕ) (fs : List (List ℕ)) → length fs ≤ no_place → last_of c fs ≤ no_place
 last_small c fs few = by_last (last_from_lem c 0 no_place fs)
   where

@@ -1,4 +1,4 @@
--- The test `laidOut` as facts, and back.
+-- The test `laid_out` as facts, and back.
 use Rattle.std.proofs.Common.{◌≡◌, ℕ, zero, suc, ◌+◌, ◌*◌, ◌<◌, ◌≤◌, true, List, sym, refl, ◌∙◌, arith, eq-eqb, eqb-true, le-leb, leb-true}
 use mathlib.Core.Bool.{and-eq-true_iff}
 use Rattle.directory.specs.Entry.{offset_at, length_at}

@@ -1,4 +1,4 @@
--- `hirunvel::storing::hirunvel_store_quote` meets its contract.
+-- `hirunvel::stores::hirunvel_store_quote` meets its contract.
 use mathlib.Core.Path.{◌≡◌}
 use mir.Syntax.{w64}
 use mir.Val.{to_z, of_z}
@@ -6,8 +6,8 @@ use borrow.Author.Rules.{rules}
 use Rattle.admission.specs.Quote.{Quotation, quoted}
 use Rattle.numbers.specs.Storing.{head_of}
 use Rattle.hirunvel.specs.Storing.{store_quoted}
-use Rattle.hirunvel.proofs.storing.hirunvel_store_quote.Statement.{statement}
-use Rattle.hirunvel.proofs.storing.hirunvel_store_quote.Tie as tie
+use Rattle.hirunvel.proofs.stores.hirunvel_store_quote.Statement.{statement}
+use Rattle.hirunvel.proofs.stores.hirunvel_store_quote.Tie as tie
 
 head-of-requires : tie.Need-head_of-requires
 head-of-requires c κs = search rules

@@ -1,11 +1,11 @@
--- `hirunvel::storing::hirunvel_store_look` meets its contract.
+-- `hirunvel::stores::hirunvel_store_look` meets its contract.
 use mathlib.Core.Path.{sym, ap, ◌∙◌}
 use borrow.Author.Rules.{rules}
 use borrow.Author.Tests.{not-true, not-false}
 use Rattle.refusal.specs.Number.{accepted}
 use Rattle.hirunvel.specs.Storing.{store_looked}
 use Rattle.store.proofs.laws.Stretches.{look_placed, stretch_found}
-use Rattle.hirunvel.proofs.storing.hirunvel_store_look.Goals as goal
+use Rattle.hirunvel.proofs.stores.hirunvel_store_look.Goals as goal
 
 pub returns-then-not-accepted : goal.returns-then-not-accepted
 unfolding store_looked

@@ -1,7 +1,7 @@
--- `hirunvel::storing::hirunvel_store_open` meets its contract.
+-- `hirunvel::stores::hirunvel_store_open` meets its contract.
 use borrow.Author.Rules.{rules}
 use Rattle.hirunvel.specs.Storing.{store_opened}
-use Rattle.hirunvel.proofs.storing.hirunvel_store_open.Goals as goal
+use Rattle.hirunvel.proofs.stores.hirunvel_store_open.Goals as goal
 
 pub returns : goal.returns
 unfolding store_opened

@@ -1,4 +1,4 @@
--- `hirunvel::storing::hirunvel_store_take` meets its contract.
+-- `hirunvel::stores::hirunvel_store_take` meets its contract.
 use mathlib.Core.Path.{◌≡◌, sym, ◌∙◌}
 use mathlib.Core.Logic.{⊎_elim}
 use mathlib.Core.Bool.{cond}
@@ -9,8 +9,8 @@ use Rattle.admission.specs.Take.{Taking, taken}
 use Rattle.numbers.specs.Storing.{head_of, head_numbers}
 use Rattle.hirunvel.specs.Storing.{store_taken}
 use borrow.Author.Rules.{rules}
-use Rattle.hirunvel.proofs.storing.hirunvel_store_take.Statement.{statement}
-use Rattle.hirunvel.proofs.storing.hirunvel_store_take.Tie as tie
+use Rattle.hirunvel.proofs.stores.hirunvel_store_take.Statement.{statement}
+use Rattle.hirunvel.proofs.stores.hirunvel_store_take.Tie as tie
 
 head-of-requires : tie.Need-head_of-requires
 head-of-requires c κs = search rules
