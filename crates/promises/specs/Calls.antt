@@ -1,6 +1,6 @@
 -- A C program's calls on one store, one after another: each gets the head, the pool, the directory and the index that the
 -- one before it left.
-use Rattle.std.specs.Prelude.{ℕ, zero, suc, ◌+◌, ◌≡◌, cond, List, [], ◌∷◌, ◌++◌, eqb, length, take, drop, get_or}
+use Rattle.std.specs.Prelude.{ℕ, zero, suc, ◌≡◌, cond, List, [], ◌∷◌, ◌++◌, eqb, length, take, drop, get_or}
 use Rattle.chunker.specs.Chunks.{chunks}
 use Rattle.cut_counts.specs.CutCounts.{cut_counts}
 use Rattle.directory.specs.Entry.{entries}

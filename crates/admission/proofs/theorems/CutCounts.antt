@@ -11,7 +11,7 @@ use Rattle.store.specs.declared.Head.{Head}
 use Rattle.store.specs.Memory.{contents}
 use Rattle.survey.specs.Walk.{Walk, job_walk}
 use Rattle.admission.specs.Grounds.{admission_ground}
-use Rattle.admission.specs.Quote.{Quotation, refused, counted, walked, quoted}
+use Rattle.admission.specs.Quote.{refused, counted, walked, quoted}
 use Rattle.admission.specs.Take.{taken}
 use Rattle.admission.proofs.laws.Asked.{asked}
 use Rattle.admission.proofs.theorems.QuoteAndTake.{same_quotation, same_refusal}

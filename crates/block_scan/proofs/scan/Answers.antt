@@ -1,7 +1,6 @@
 -- `block_scan::scan` meets its contract.
 use native.Mathlib.Omega.{arith}
 use mathlib.Core.Path.{◌∙◌}
-use borrow.Author.Rules.{rules}
 use Rattle.scan.proofs.laws.run.Scanning.{stays}
 use Rattle.block_scan.proofs.laws.windows.Peaks.{first_largest}
 use Rattle.block_scan.proofs.scan.Goals as goal

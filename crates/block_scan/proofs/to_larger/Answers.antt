@@ -1,11 +1,6 @@
 -- `block_scan::to_larger` meets its contract: each turn passes a byte that is not larger.
-use Prim.Native.Nat.{◌-◌, min}
 use native.Mathlib.Omega.{arith}
-use mathlib.Core.Path.{◌≡◌}
-use borrow.Author.Rules.{rules}
-use lib.ListN.{length}
-use Rattle.scan.specs.internal.Run.{Going}
-use Rattle.block_scan.proofs.laws.Middle.{Passing, passing_none, passing_more, passing_larger, passing_stops}
+use Rattle.block_scan.proofs.laws.Middle.{passing_none, passing_more, passing_larger, passing_stops}
 use Rattle.block_scan.proofs.to_larger.Goals as goal
 
 pub loop-run-init : goal.loop-run-init

@@ -1,11 +1,9 @@
 -- `block_scan::to_larger` meets its contract: each turn passes a byte that is not larger.
 use Prim.Native.Nat.{◌-◌, min}
-use native.Mathlib.Omega.{arith}
 use mathlib.Core.Path.{◌≡◌}
-use borrow.Author.Rules.{rules}
 use lib.ListN.{length}
 use Rattle.scan.specs.internal.Run.{Going}
-use Rattle.block_scan.proofs.laws.Middle.{Passing, passing_none, passing_more, passing_larger, passing_stops}
+use Rattle.block_scan.proofs.laws.Middle.{Passing}
 use Rattle.block_scan.proofs.to_larger.Given as goal
 
 abbrev pub invariant-loop-run : goal.invariant-loop-run

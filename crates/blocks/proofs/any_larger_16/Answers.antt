@@ -1,10 +1,6 @@
 -- `blocks::any_larger_16` meets its contract.
-use Prim.Native.Nat.{◌+◌, ◌-◌, ◌≤◌}
 use native.Mathlib.Omega.{arith}
-use mathlib.Core.Logic.{⊎_elim}
-use lib.ListN.{length}
-use borrow.Author.Rules.{rules}
-use Rattle.blocks.proofs.laws.Windows.{Asked, asked_none, asked_larger, asked_more, asked_all}
+use Rattle.blocks.proofs.laws.Windows.{asked_none, asked_larger, asked_more, asked_all}
 use Rattle.blocks.proofs.any_larger_16.Goals as goal
 use Rattle.blocks.proofs.any_larger_16.Goals.{then-max-value, else-max-value}
 

@@ -1,10 +1,6 @@
 -- `blocks::first_largest_16` meets its contract.
-use Prim.Native.Nat.{◌+◌, ◌-◌, ◌≤◌}
 use native.Mathlib.Omega.{arith}
-use mathlib.Core.Path.{◌≡◌}
-use lib.ListN.{length}
-use borrow.Author.Rules.{rules}
-use Rattle.blocks.proofs.laws.Windows.{Least, least_none, least_more, least_all}
+use Rattle.blocks.proofs.laws.Windows.{least_none, least_more, least_all}
 use Rattle.blocks.proofs.first_largest_16.Goals as goal
 
 pub loop-i-init : goal.loop-i-init

@@ -1,10 +1,8 @@
 -- `blocks::largest_from` meets its contract.
-use Prim.Native.Nat.{◌-◌, ◌≤◌}
 use native.Mathlib.Omega.{arith}
 use mathlib.Core.Path.{◌≡◌}
 use lib.ListN.{length}
-use borrow.Author.Rules.{rules}
-use Rattle.blocks.proofs.laws.Largest.{Looked, looked_none, looked_more, looked_all}
+use Rattle.blocks.proofs.laws.Largest.{looked_none, looked_more, looked_all}
 use Rattle.blocks.proofs.largest_from.Goals as goal
 
 pub loop-at-init : goal.loop-at-init

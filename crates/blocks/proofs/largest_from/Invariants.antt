@@ -1,10 +1,7 @@
 -- `blocks::largest_from` meets its contract.
 use Prim.Native.Nat.{◌-◌, ◌≤◌}
-use native.Mathlib.Omega.{arith}
-use mathlib.Core.Path.{◌≡◌}
 use lib.ListN.{length}
-use borrow.Author.Rules.{rules}
-use Rattle.blocks.proofs.laws.Largest.{Looked, looked_none, looked_more, looked_all}
+use Rattle.blocks.proofs.laws.Largest.{Looked}
 use Rattle.blocks.proofs.largest_from.Given as goal
 
 abbrev pub invariant-loop-at : goal.invariant-loop-at

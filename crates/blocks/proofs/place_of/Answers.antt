@@ -1,9 +1,9 @@
 -- `blocks::place_of` meets its contract: the byte stands at an index that the search does not pass.
-use Prim.Native.Nat.{◌+◌, ◌-◌}
+use Prim.Native.Nat.{◌+◌}
 use native.Mathlib.Omega.{arith}
-use lib.ListN.{length, get_or}
+use lib.ListN.{get_or}
 use mathlib.Core.Path.{◌≡◌}
-use Rattle.blocks.proofs.laws.Largest.{at_one, Unseen, unseen_none, unseen_to, unseen_found}
+use Rattle.blocks.proofs.laws.Largest.{at_one, unseen_none, unseen_to, unseen_found}
 use Rattle.blocks.proofs.place_of.Goals as goal
 
 pub loop-at-init : goal.loop-at-init

@@ -1,9 +1,7 @@
 -- `blocks::place_of` meets its contract: the byte stands at an index that the search does not pass.
-use Prim.Native.Nat.{◌+◌, ◌-◌}
-use native.Mathlib.Omega.{arith}
-use lib.ListN.{length, get_or}
-use mathlib.Core.Path.{◌≡◌}
-use Rattle.blocks.proofs.laws.Largest.{at_one, Unseen, unseen_none, unseen_to, unseen_found}
+use Prim.Native.Nat.{◌-◌}
+use lib.ListN.{length}
+use Rattle.blocks.proofs.laws.Largest.{Unseen}
 use Rattle.blocks.proofs.place_of.Given as goal
 
 abbrev pub invariant-loop-at : goal.invariant-loop-at

@@ -1,7 +1,6 @@
 -- `chunker::feed` meets its contract.
 use native.Mathlib.Omega.{arith}
 use mathlib.Core.Path.{ap, sym, ◌∙◌}
-use borrow.Author.Rules.{rules}
 use borrow.Author.Tests.{not-true, not-false}
 use Rattle.refusal.specs.Number.{accepted}
 use Rattle.refusal.proofs.laws.NoGround.{no_ground}

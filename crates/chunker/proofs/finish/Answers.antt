@@ -1,6 +1,5 @@
 -- `chunker::finish` meets its contract.
 use mathlib.Core.Path.{ap, sym, ◌∙◌}
-use borrow.Author.Rules.{rules}
 use borrow.Author.Tests.{not-true, not-false}
 use Rattle.refusal.specs.Number.{accepted}
 use Rattle.chunker.specs.Answers.{finished}

@@ -1,7 +1,6 @@
 -- `chunker::open` meets its contract.
 use mathlib.Core.Path.{sym, ◌∙◌}
 use Rattle.chunker.specs.Answers.{opened}
-use borrow.Author.Rules.{rules}
 use Rattle.chunker.proofs.open.Goals as goal
 
 pub returns-then-window_allowed : goal.returns-then-window_allowed

@@ -1,5 +1,4 @@
 -- `chunker::unmoved` meets its contract.
-use borrow.Author.Rules.{rules}
 use Rattle.chunker.proofs.unmoved.Goals as goal
 
 pub returns : goal.returns

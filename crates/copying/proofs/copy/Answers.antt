@@ -1,5 +1,4 @@
 -- `copying::copy` meets its contract.
-use borrow.Author.Rules.{rules}
 use native.Mathlib.Omega.{arith}
 use Rattle.copying.proofs.laws.Copying.{two_blocks}
 use Rattle.copying.proofs.copy.Goals as goal

@@ -1,8 +1,7 @@
 -- `copying::copy_bytes` meets its contract: each turn copies one byte.
 use Prim.Native.Nat.{◌-◌}
-use native.Mathlib.Omega.{arith}
 use lib.ListN.{length}
-use Rattle.copying.proofs.laws.Copying.{Copied, copied_none, copied_more, copied_all}
+use Rattle.copying.proofs.laws.Copying.{Copied}
 use Rattle.copying.proofs.copy_bytes.Given as goal
 
 abbrev pub invariant-loop-i : goal.invariant-loop-i

@@ -2,7 +2,7 @@
 use Prim.Native.Nat.{◌-◌}
 use native.Mathlib.Omega.{arith}
 use lib.ListN.{length}
-use Rattle.copying.proofs.laws.Copying.{Copied, copied_none, copied_over, copied_all}
+use Rattle.copying.proofs.laws.Copying.{copied_none, copied_over, copied_all}
 use Rattle.copying.proofs.copy_long.Goals as goal
 
 pub loop-done-init : goal.loop-done-init

@@ -1,8 +1,7 @@
 -- `copying::copy_long` meets its contract: each turn copies 16 bytes.
 use Prim.Native.Nat.{◌-◌}
-use native.Mathlib.Omega.{arith}
 use lib.ListN.{length}
-use Rattle.copying.proofs.laws.Copying.{Copied, copied_none, copied_over, copied_all}
+use Rattle.copying.proofs.laws.Copying.{Copied}
 use Rattle.copying.proofs.copy_long.Given as goal
 
 abbrev pub invariant-loop-done : goal.invariant-loop-done

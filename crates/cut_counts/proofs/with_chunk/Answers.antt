@@ -2,7 +2,6 @@
 use Prim.Native.Nat.{ℕ, ◌+◌, ◌≤◌}
 use native.Mathlib.Omega.{arith}
 use borrow.Author.Tests.{not-true, not-false}
-use borrow.Author.Rules.{rules}
 use mir.Val.{bool_byte}
 use Rattle.cut_counts.specs.CutCounts.{is_low, is_high}
 use Rattle.cut_counts.proofs.laws.Kinds.{as_one, just_one}

@@ -1,7 +1,5 @@
 -- `difference::first_difference` meets its contract. Each turn compares one place.
-use Prim.Native.Nat.{suc, ◌-◌}
-use Rattle.difference.specs.Difference.{count}
-use Rattle.difference.proofs.laws.Comparing.{Comparing, first_short, second_short, begins, differs, goes_on, ends}
+use Rattle.difference.proofs.laws.Comparing.{first_short, second_short, begins, differs, goes_on, ends}
 use borrow.Author.Rules.{rules}
 use Rattle.difference.proofs.first_difference.Goals as goal
 

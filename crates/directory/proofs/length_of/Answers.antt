@@ -1,5 +1,5 @@
 -- `directory::length_of` meets its contract.
-use Rattle.std.proofs.Common.{◌+◌, ◌*◌, arith, rules}
+use Rattle.std.proofs.Common.{◌+◌, ◌*◌, arith}
 use Rattle.directory.specs.Entry.{stride}
 use Rattle.directory.proofs.length_of.Goals as goal
 

@@ -1,5 +1,4 @@
 -- `frame_text::digit` meets its contract.
-use borrow.Author.Rules.{rules}
 use borrow.Author.Tests.{lt-ltb, le-ltb}
 use Rattle.frame_text.proofs.digit.Goals as goal
 

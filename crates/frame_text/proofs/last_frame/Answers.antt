@@ -1,5 +1,4 @@
 -- `frame_text::last_frame` meets its contract.
-use borrow.Author.Rules.{rules}
 use Rattle.frame_text.proofs.last_frame.Goals as goal
 
 pub returns : goal.returns

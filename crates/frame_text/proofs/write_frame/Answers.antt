@@ -3,7 +3,6 @@ use mathlib.Core.Path.{refl, ap, ◌∙◌}
 use lib.ListN.{length}
 use lib.Seq.{length-sets}
 use Rattle.frame_text.proofs.laws.Stores.{frame_stores}
-use borrow.Author.Rules.{rules}
 use Rattle.frame_text.proofs.write_frame.Goals as goal
 
 pub returns : goal.returns

@@ -1,7 +1,7 @@
 -- `frame_text::write_hex` meets its contract: each iteration writes one digit.
 use native.Mathlib.Omega.{arith}
 use mathlib.Core.Path.{refl}
-use Rattle.frame_text.proofs.laws.Stores.{Writing, writes_one, writes_all}
+use Rattle.frame_text.proofs.laws.Stores.{writes_one, writes_all}
 use Rattle.frame_text.proofs.write_hex.Goals as goal
 
 pub loop-left-init : goal.loop-left-init

@@ -1,7 +1,5 @@
 -- `frame_text::write_hex` meets its contract: each iteration writes one digit.
-use native.Mathlib.Omega.{arith}
-use mathlib.Core.Path.{refl}
-use Rattle.frame_text.proofs.laws.Stores.{Writing, writes_one, writes_all}
+use Rattle.frame_text.proofs.laws.Stores.{Writing}
 use Rattle.frame_text.proofs.write_hex.Given as goal
 
 abbrev pub invariant-loop-left : goal.invariant-loop-left

@@ -1,5 +1,5 @@
 -- `gear::chain` meets its contract: it sums up to the end.
-use Rattle.std.proofs.Common.{◌/◌, ◌^◌, ap, ◌∙◌, rules}
+use Rattle.std.proofs.Common.{◌/◌, ◌^◌, ap, ◌∙◌}
 use lib.Seq.{take-length}
 use Rattle.gear.specs.Gear.{sum}
 use Rattle.gear.proofs.laws.Sums.{chain_sum}

@@ -1,6 +1,6 @@
 -- `gear::last_32` meets its contract: each stretch of eight bytes is summed as far as the first is.
-use Rattle.std.proofs.Common.{◌+◌, ◌-◌, ◌≤◌, refl, rules}
-use Rattle.gear.proofs.laws.Stretches.{Summed, summed_none, summed_more, summed_all, summed_joined}
+use Rattle.std.proofs.Common.{refl, rules}
+use Rattle.gear.proofs.laws.Stretches.{summed_none, summed_more, summed_all, summed_joined}
 use Rattle.gear.proofs.last_32.Goals as goal
 
 pub loop-at-init : goal.loop-at-init

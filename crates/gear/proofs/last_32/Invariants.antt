@@ -1,6 +1,6 @@
 -- `gear::last_32` meets its contract: each stretch of eight bytes is summed as far as the first is.
-use Rattle.std.proofs.Common.{◌+◌, ◌-◌, ◌≤◌, refl, rules}
-use Rattle.gear.proofs.laws.Stretches.{Summed, summed_none, summed_more, summed_all, summed_joined}
+use Rattle.std.proofs.Common.{◌+◌, ◌-◌, ◌≤◌}
+use Rattle.gear.proofs.laws.Stretches.{Summed}
 use Rattle.gear.proofs.last_32.Given as goal
 
 abbrev pub invariant-loop-at : goal.invariant-loop-at

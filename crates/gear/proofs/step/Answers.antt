@@ -1,5 +1,5 @@
 -- `gear::step` meets its contract.
-use Rattle.std.proofs.Common.{get_or, ap, arith, rules}
+use Rattle.std.proofs.Common.{get_or, ap, arith}
 use Rattle.gear.proofs.step.Goals as goal
 
 pub returns : goal.returns

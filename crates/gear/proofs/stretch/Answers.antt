@@ -1,6 +1,6 @@
 -- `gear::stretch` meets its contract: the bytes up to `at` are summed.
-use Rattle.std.proofs.Common.{◌-◌, ◌≤◌, refl, rules}
-use Rattle.gear.proofs.laws.Stretches.{Summed, summed_none, summed_more, summed_all}
+use Rattle.std.proofs.Common.{◌-◌, refl, rules}
+use Rattle.gear.proofs.laws.Stretches.{summed_none, summed_more, summed_all}
 use Rattle.gear.proofs.stretch.Goals as goal
 
 pub loop-at-init : goal.loop-at-init

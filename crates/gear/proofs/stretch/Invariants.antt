@@ -1,6 +1,6 @@
 -- `gear::stretch` meets its contract: the bytes up to `at` are summed.
-use Rattle.std.proofs.Common.{◌-◌, ◌≤◌, refl, rules}
-use Rattle.gear.proofs.laws.Stretches.{Summed, summed_none, summed_more, summed_all}
+use Rattle.std.proofs.Common.{◌-◌, ◌≤◌}
+use Rattle.gear.proofs.laws.Stretches.{Summed}
 use Rattle.gear.proofs.stretch.Given as goal
 
 abbrev pub invariant-loop-at : goal.invariant-loop-at

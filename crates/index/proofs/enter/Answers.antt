@@ -1,7 +1,6 @@
 -- `index::enter` meets its contract.
 use native.Mathlib.Omega.{arith}
 use lib.ListN.{length-set}
-use borrow.Author.Rules.{rules}
 use Rattle.index.proofs.enter.Goals as goal
 
 pub bounds-index-chain-2 : goal.bounds-index-chain-2

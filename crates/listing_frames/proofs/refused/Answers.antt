@@ -1,6 +1,5 @@
 -- `listing_frames::refused` meets its contract.
 use native.Mathlib.Omega.{arith}
-use borrow.Author.Rules.{rules}
 use Rattle.listing_frames.proofs.laws.Listed.{one_stands}
 use Rattle.listing_frames.proofs.refused.Goals as goal
 

@@ -1,6 +1,5 @@
 -- `marks::is_first` meets its contract.
 use mathlib.Core.Path.{ap}
-use borrow.Author.Rules.{rules}
 use lib.Dec.{leb}
 use Rattle.marks.specs.Marks.{first_base}
 use Rattle.marks.proofs.is_first.Goals as goal

@@ -1,6 +1,5 @@
 -- `marks::note_start` meets its contract.
 use Prim.Native.Nat.{◌%◌}
-use borrow.Author.Rules.{rules}
 use borrow.Author.Tests.{eq-eqb, ne_eqb}
 use Rattle.marks.specs.internal.Places.{start_stride}
 use Rattle.marks.proofs.note_start.Goals as goal

@@ -1,5 +1,4 @@
 -- `refusal::accepted` meets its contract.
-use borrow.Author.Rules.{rules}
 use Rattle.refusal.proofs.accepted.Goals as goal
 
 pub returns : goal.returns

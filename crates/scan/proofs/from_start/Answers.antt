@@ -1,6 +1,5 @@
 -- `scan::from_start` meets its contract.
 use mathlib.Core.Path.{◌∙◌}
-use borrow.Author.Rules.{rules}
 use Rattle.scan.specs.Scanner.{fresh}
 use Rattle.scan.specs.internal.Run.{Begun}
 use Rattle.scan.proofs.laws.Soundness.{fresh_sound}

@@ -1,9 +1,7 @@
 -- `search::differs_16` meets its contract: the flag is set where two bytes differ, and only there.
-use Prim.Native.Nat.{ℕ, ◌+◌, ◌-◌, ◌≤◌}
+use Prim.Native.Nat.{ℕ, ◌+◌}
 use native.Mathlib.Omega.{arith}
 use mathlib.Core.Path.{◌≡◌}
-use mathlib.Core.Bool.{true, false}
-use Rattle.search.specs.internal.Comparing.{Differs, Agree}
 use Rattle.search.proofs.laws.Comparing.{agree_more}
 use Rattle.search.proofs.differs_16.Goals as goal
 

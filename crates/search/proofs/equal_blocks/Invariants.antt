@@ -1,10 +1,7 @@
 -- `search::equal_blocks` meets its contract: each turn passes 16 bytes that agree.
 use Prim.Native.Nat.{◌-◌, ◌≤◌}
-use native.Mathlib.Omega.{arith}
-use borrow.Author.Rules.{rules}
 use lib.ListN.{length}
 use Rattle.search.specs.internal.Comparing.{Agree}
-use Rattle.search.proofs.laws.Comparing.{differs_more, agree_on}
 use Rattle.search.proofs.equal_blocks.Given as goal
 
 abbrev pub invariant-loop-at : goal.invariant-loop-at

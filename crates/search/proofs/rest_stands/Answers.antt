@@ -1,9 +1,8 @@
 -- `search::rest_stands` meets its contract: each turn compares one byte.
-use Prim.Native.Nat.{ℕ, ◌-◌, ◌≤◌}
+use Prim.Native.Nat.{ℕ}
 use native.Mathlib.Omega.{arith}
 use mathlib.Core.Path.{◌≡◌}
 use lib.ListN.{length}
-use Rattle.search.specs.internal.Comparing.{Agree}
 use Rattle.search.proofs.laws.Standing.{agree_next}
 use Rattle.search.proofs.rest_stands.Goals as goal
 

@@ -1,12 +1,10 @@
 -- `search::search` meets its contract: each turn over the chain passes an entry, or keeps its number.
-use Prim.Native.Nat.{◌+◌, ◌*◌, ◌-◌, ◌≤◌, ◌<◌}
+use Prim.Native.Nat.{◌+◌, ◌-◌, ◌≤◌, ◌<◌}
 use native.Mathlib.Omega.{arith}
-use mathlib.Core.Path.{◌≡◌, refl, sym, ◌∙◌}
+use mathlib.Core.Path.{◌≡◌, sym, ◌∙◌}
 use borrow.Author.Rules.{rules}
 use lib.ListN.{length}
-use Rattle.gear.specs.Gear.{chain}
 use Rattle.gear.proofs.laws.Sums.{chain_below}
-use Rattle.directory.specs.Entry.{stride}
 use Rattle.store.specs.Memory.{chunk_at}
 use Rattle.index.specs.Index.{none, link_at}
 use Rattle.search.proofs.laws.Searching.{Sought, sought_begun, sought_none_left, sought_out, sought_other, sought_here, holds_length}

@@ -1,13 +1,7 @@
 -- `search::stands_at` meets its contract: each turn passes 16 bytes that agree, and then the rest is compared.
 use Prim.Native.Nat.{◌-◌, ◌≤◌}
-use native.Mathlib.Omega.{arith}
-use mathlib.Core.Path.{◌≡◌, ◌∙◌}
-use mathlib.Core.Bool.{Bool, true, false}
-use borrow.Author.Rules.{rules}
 use lib.ListN.{length}
 use Rattle.search.specs.internal.Comparing.{Agree}
-use Rattle.search.proofs.laws.Comparing.{differs_more, agree_on}
-use Rattle.search.proofs.laws.Standing.{stands_by, stands_not}
 use Rattle.search.proofs.stands_at.Given as goal
 
 abbrev pub invariant-loop-at : goal.invariant-loop-at

@@ -1,8 +1,6 @@
 -- `store::look_ground` meets its contract.
 use mathlib.Core.Path.{sym, ◌∙◌}
-use borrow.Author.Rules.{rules}
 use borrow.Author.Tests.{not-true, not-false, lt-ltb, le-ltb}
-use Rattle.refusal.specs.Number.{accepted}
 use Rattle.store.specs.Grounds.{all_below}
 use Rattle.store.proofs.laws.grounds.Passed.{look_ground_lem}
 use Rattle.store.proofs.look_ground.Goals as goal

@@ -1,7 +1,6 @@
 -- `store::open` meets its contract.
 use mathlib.Core.Path.{sym, ◌∙◌}
 use Rattle.store.specs.Opening.{opened}
-use borrow.Author.Rules.{rules}
 use Rattle.store.proofs.open.Goals as goal
 
 pub returns-then-window_allowed : goal.returns-then-window_allowed

@@ -1,5 +1,4 @@
 -- `store::stretch_of` meets its contract, whatever the directory holds.
-use borrow.Author.Rules.{rules}
 use borrow.Author.Tests.{le-leb, lt-leb}
 use Rattle.store.specs.Looking.{stretch_of}
 use Rattle.store.proofs.stretch_of.Goals as goal

@@ -1,9 +1,9 @@
 -- `survey::survey_chunk` meets its contract.
-use Prim.Native.Nat.{ℕ, ◌+◌, ◌/◌, ◌^◌, ◌≤◌, ◌<◌}
+use Prim.Native.Nat.{ℕ, ◌/◌, ◌^◌, ◌≤◌, ◌<◌}
 use native.Mathlib.Omega.{arith}
 use mathlib.Core.Path.{◌≡◌, ap, ◌∙◌}
 use mathlib.Core.List.{List}
-use lib.ListN.{length, set, take}
+use lib.ListN.{set, take}
 use borrow.Author.Rules.{rules}
 use Rattle.gear.proofs.laws.Sums.{chain_sum}
 use Rattle.directory.specs.Entry.{entries}

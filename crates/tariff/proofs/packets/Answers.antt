@@ -1,6 +1,5 @@
 -- `tariff::packets` meets its contract.
 use mathlib.Core.Path.{refl}
-use borrow.Author.Rules.{rules}
 use Rattle.tariff.specs.Tariff.{packets}
 use Rattle.tariff.proofs.packets.Goals as goal
 

@@ -1,9 +1,7 @@
 -- `block_scan::windows::while_larger` meets its contract: each turn passes a byte that is larger than all before it.
 use Prim.Native.Nat.{◌-◌}
-use native.Mathlib.Omega.{arith}
 use lib.ListN.{length}
 use Rattle.block_scan.specs.internal.Peaks.{Rising}
-use Rattle.block_scan.proofs.laws.windows.Peaks.{reached_none, reached_then, reached_next}
 use Rattle.block_scan.proofs.windows.while_larger.Given as goal
 
 abbrev pub invariant-loop-peak : goal.invariant-loop-peak

@@ -2,7 +2,6 @@
 use mathlib.Core.Path.{sym, ◌∙◌}
 use borrow.Author.Tests.{not-true, not-false}
 use Rattle.chunker.specs.Scanner.{sound, scanner_ground}
-use borrow.Author.Rules.{rules}
 use Rattle.chunker.proofs.ground.scanner_ground.Goals as goal
 
 pub returns-then-not-window_allowed : goal.returns-then-not-window_allowed

@@ -1,5 +1,4 @@
 -- `copying::fours::copy_4` meets its contract.
-use borrow.Author.Rules.{rules}
 use mathlib.Core.Path.{ap, ◌∙◌}
 use Rattle.copying.specs.Written.{written}
 use Rattle.copying.proofs.fours.copy_4.Goals as goal

@@ -1,5 +1,4 @@
 -- `copying::fours::copy_8` meets its contract.
-use borrow.Author.Rules.{rules}
 use native.Mathlib.Omega.{arith}
 use mathlib.Core.Path.{ap, ◌∙◌}
 use Rattle.copying.specs.Written.{written}

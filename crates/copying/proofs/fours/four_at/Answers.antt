@@ -1,5 +1,4 @@
 -- `copying::fours::four_at` meets its contract.
-use borrow.Author.Rules.{rules}
 use Rattle.copying.proofs.laws.fours.Fours.{four_read}
 use Rattle.copying.proofs.fours.four_at.Goals as goal
 

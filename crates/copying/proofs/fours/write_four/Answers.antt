@@ -1,5 +1,4 @@
 -- `copying::fours::write_four` meets its contract.
-use borrow.Author.Rules.{rules}
 use native.Mathlib.Omega.{arith}
 use lib.ListN.{length-set}
 use Rattle.copying.proofs.laws.fours.Fours.{four_written}

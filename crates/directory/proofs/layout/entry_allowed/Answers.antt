@@ -1,5 +1,5 @@
 -- `directory::layout::entry_allowed` meets its contract.
-use Rattle.std.proofs.Common.{arith, rules, eq-eqb, ne_eqb}
+use Rattle.std.proofs.Common.{arith, eq-eqb, ne_eqb}
 use Rattle.directory.proofs.laws.layout.Testing.{one_test}
 use Rattle.directory.proofs.layout.entry_allowed.Goals as goal
 

@@ -1,5 +1,4 @@
 -- `hirunvel::rebuilding::hirunvel_rebuild` meets its contract.
-use borrow.Author.Rules.{rules}
 use Rattle.hirunvel.specs.Rebuilding.{job_rebuilt}
 use Rattle.hirunvel.proofs.rebuilding.hirunvel_rebuild.Goals as goal
 

@@ -1,12 +1,10 @@
 -- `hirunvel::scanning::feed_general` meets its contract.
 use mathlib.Core.Path.{◌≡◌, sym, ap, ◌∙◌}
-use mathlib.Core.Logic.{⊎_elim}
 use mathlib.Core.Bool.{cond}
 use Rattle.refusal.specs.Number.{accepted}
 use Rattle.chunker.specs.Answers.{fed}
 use Rattle.numbers.specs.Scanning.{numbers_of}
 use Rattle.hirunvel.proofs.laws.scanning.Answers.{fed_over, fed_after}
-use borrow.Author.Rules.{rules}
 use Rattle.hirunvel.proofs.scanning.feed_general.Goals as goal
 use Rattle.hirunvel.proofs.scanning.feed_general.Goals.{then-accepted, else-accepted}
 

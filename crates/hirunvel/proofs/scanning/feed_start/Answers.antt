@@ -1,6 +1,5 @@
 -- `hirunvel::scanning::feed_start` meets its contract.
 use mathlib.Core.Path.{sym, ◌∙◌}
-use borrow.Author.Rules.{rules}
 use Rattle.hirunvel.proofs.laws.scanning.Answers.{fed_unsound, fed_starts}
 use Rattle.hirunvel.proofs.scanning.feed_start.Goals as goal
 

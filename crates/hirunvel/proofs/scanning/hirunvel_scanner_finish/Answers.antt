@@ -1,12 +1,10 @@
 -- `hirunvel::scanning::hirunvel_scanner_finish` meets its contract.
 use mathlib.Core.Path.{◌≡◌, sym, ap, ◌∙◌}
-use mathlib.Core.Logic.{⊎_elim}
 use mathlib.Core.Bool.{cond}
 use Rattle.refusal.specs.Number.{accepted}
 use Rattle.chunker.specs.Answers.{finished}
 use Rattle.numbers.specs.Scanning.{numbers_of}
 use Rattle.hirunvel.proofs.laws.scanning.Answers.{finished_over, finished_after}
-use borrow.Author.Rules.{rules}
 use Rattle.hirunvel.proofs.scanning.hirunvel_scanner_finish.Goals as goal
 use Rattle.hirunvel.proofs.scanning.hirunvel_scanner_finish.Goals.{then-accepted, else-accepted}
 

@@ -1,5 +1,4 @@
 -- `hirunvel::scanning::hirunvel_scanner_open` meets its contract.
-use borrow.Author.Rules.{rules}
 use Rattle.hirunvel.specs.Scanning.{scanner_opened}
 use Rattle.hirunvel.proofs.scanning.hirunvel_scanner_open.Goals as goal
 

@@ -1,6 +1,5 @@
 -- `hirunvel::stores::hirunvel_store_look` meets its contract.
 use mathlib.Core.Path.{sym, ap, ◌∙◌}
-use borrow.Author.Rules.{rules}
 use borrow.Author.Tests.{not-true, not-false}
 use Rattle.refusal.specs.Number.{accepted}
 use Rattle.hirunvel.specs.Storing.{store_looked}

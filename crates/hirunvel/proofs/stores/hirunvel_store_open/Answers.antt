@@ -1,5 +1,4 @@
 -- `hirunvel::stores::hirunvel_store_open` meets its contract.
-use borrow.Author.Rules.{rules}
 use Rattle.hirunvel.specs.Storing.{store_opened}
 use Rattle.hirunvel.proofs.stores.hirunvel_store_open.Goals as goal
 

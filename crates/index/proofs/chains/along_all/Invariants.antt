@@ -1,12 +1,9 @@
 -- `index::chains::along_all` meets its contract: after each chain the budget is what the chains so far leave.
 use Prim.Native.Nat.{◌-◌, ◌≤◌}
-use native.Mathlib.Omega.{arith}
-use mathlib.Core.Path.{◌≡◌, refl}
-use borrow.Author.Rules.{rules}
+use mathlib.Core.Path.{◌≡◌}
 use Rattle.gear.specs.Gear.{chains}
 use Rattle.store.specs.Memory.{contents}
 use Rattle.index.specs.Along.{along_all}
-use Rattle.index.proofs.laws.chains.Stepping.{chains_begun, chains_more, chains_all}
 use Rattle.index.proofs.chains.along_all.Given as goal
 
 abbrev pub invariant-loop-chain : goal.invariant-loop-chain

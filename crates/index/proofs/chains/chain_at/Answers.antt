@@ -1,5 +1,4 @@
 -- `index::chains::chain_at` meets its contract.
-use borrow.Author.Rules.{rules}
 use Rattle.index.proofs.laws.chains.Stepping.{chain_of_entry}
 use Rattle.index.proofs.chains.chain_at.Goals as goal
 

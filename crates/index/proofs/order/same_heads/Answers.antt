@@ -1,8 +1,5 @@
 -- `index::order::same_heads` meets its contract.
-use Prim.Native.Nat.{◌-◌}
-use borrow.Author.Rules.{rules}
-use Rattle.gear.specs.Gear.{chains}
-use Rattle.index.proofs.laws.order.Comparing.{Compared, compared_none, compared_other, compared_equal, compared_all}
+use Rattle.index.proofs.laws.order.Comparing.{compared_none, compared_other, compared_equal, compared_all}
 use Rattle.index.proofs.order.same_heads.Goals as goal
 
 pub loop-chain-init : goal.loop-chain-init

@@ -1,8 +1,7 @@
 -- `index::order::same_heads` meets its contract.
 use Prim.Native.Nat.{◌-◌}
-use borrow.Author.Rules.{rules}
 use Rattle.gear.specs.Gear.{chains}
-use Rattle.index.proofs.laws.order.Comparing.{Compared, compared_none, compared_other, compared_equal, compared_all}
+use Rattle.index.proofs.laws.order.Comparing.{Compared}
 use Rattle.index.proofs.order.same_heads.Given as goal
 
 abbrev pub invariant-loop-chain : goal.invariant-loop-chain

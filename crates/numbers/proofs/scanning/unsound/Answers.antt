@@ -1,6 +1,5 @@
 -- `numbers::scanning::unsound` meets its contract.
 use mathlib.Core.Path.{sym, ◌∙◌}
-use borrow.Author.Rules.{rules}
 use Rattle.numbers.proofs.scanning.unsound.Goals as goal
 
 pub returns-then-window_allowed : goal.returns-then-window_allowed

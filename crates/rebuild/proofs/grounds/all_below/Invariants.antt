@@ -1,9 +1,7 @@
 -- `rebuild::grounds::all_below` meets its contract: each turn tests one number.
 use Prim.Native.Nat.{◌-◌}
-use native.Mathlib.Omega.{arith}
-use mathlib.Core.Path.{refl}
 use lib.ListN.{length}
-use Rattle.rebuild.proofs.laws.Recipes.{Compared, one_below, one_not_below, all_tested}
+use Rattle.rebuild.proofs.laws.Recipes.{Compared}
 use Rattle.rebuild.proofs.grounds.all_below.Given as goal
 
 abbrev pub invariant-loop-i : goal.invariant-loop-i

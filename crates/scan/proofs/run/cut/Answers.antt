@@ -1,5 +1,4 @@
 -- `scan::run::cut` meets its contract.
-use borrow.Author.Rules.{rules}
 use Rattle.scan.proofs.run.cut.Goals as goal
 
 pub returns : goal.returns

@@ -1,5 +1,4 @@
 -- `store::grounds::fits` meets its contract.
-use borrow.Author.Rules.{rules}
 use borrow.Author.Tests.{le-leb, lt-leb}
 use Rattle.store.specs.Grounds.{fits}
 use Rattle.store.proofs.grounds.fits.Goals as goal

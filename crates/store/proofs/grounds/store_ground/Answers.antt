@@ -1,6 +1,5 @@
 -- `store::grounds::store_ground` meets its contract.
 use mathlib.Core.Path.{sym, ◌∙◌}
-use borrow.Author.Rules.{rules}
 use borrow.Author.Tests.{not-true, not-false}
 use Rattle.store.specs.Grounds.{store_ground}
 use Rattle.store.proofs.grounds.store_ground.Goals as goal
