@@ -7,8 +7,8 @@ export RT_JOBS ?= 2
 
 help:
 	@echo "make help            this list"
-	@echo "make test            all proofs from scratch, the must-fail edits and all other tests"
-	@echo "                     (about 20 minutes on two cores)"
+	@echo "make test            all proofs and must-fail edits that are not kept from a run before, and all other tests"
+	@echo "                     (about 20 minutes on four cores the first time; then some minutes)"
 	@echo "make list JOB=FILE   the frames of a job"
 	@echo "                     (about 2 minutes the first time, to prove and build the program; then at once)"
 	@echo "make example         a label and its revision, quoted, taken and rebuilt from C"
@@ -59,8 +59,8 @@ bench: $(libraries)
 	    -C llvm-args=-align-all-functions=6 -L native=target/bench/placed -o target/bench/bench bench/main.rs
 	@target/bench/bench target/bench
 
-# A program, and a library for C: proved and built again if anything in the crates is newer.
-crates := crates.txt $(shell find crates)
+# A program, and a library for C: proved and built again if anything in the crates is newer, but for what checks keep in out/.
+crates := crates.txt $(shell find crates -name out -prune -o -print)
 
 target/bin/%: $(crates)
 	@tools/prove $*
