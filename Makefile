@@ -10,14 +10,14 @@ help:
 	@echo "make test            all proofs and must-fail edits that are not kept from a run before, and all other tests"
 	@echo "                     (about 20 minutes on four cores the first time; then some minutes)"
 	@echo "make list JOB=FILE   the frames of a job"
-	@echo "                     (about 2 minutes the first time, to prove and build the program; then at once)"
+	@echo "                     (some minutes the first time, to prove and build the program; then at once)"
 	@echo "make example         a label and its revision, quoted, taken and rebuilt from C"
-	@echo "                     (about 2 minutes the first time, to prove and build the library; then at once)"
+	@echo "                     (some minutes the first time, to prove and build the library; then at once)"
 	@echo "make peaks JOB=FILE  the chunks and cuts of a job with windows from 1 to 64, to choose one by"
-	@echo "                     (about 2 minutes the first time, to prove and build the library; then at once)"
+	@echo "                     (some minutes the first time, to prove and build the library; then at once)"
 	@echo "make bench           the library measured beside plain Rust, a HashMap and, where its archives are there,"
 	@echo "                     the version before (bench/before.rs says how to make that)"
-	@echo "                     (about 5 minutes, and 2 more where the library is not built yet)"
+	@echo "                     (about 5 minutes, and some more where the library is not built yet)"
 
 test:
 	@tests/run

@@ -16,9 +16,7 @@ pub extern "C" fn hirunvel_scanner_open(window: u32, scanner: &mut [u32; 4]) -> 
 }
 
 // Moves the scanner on over a part; tells the bytes consumed, 1 if a cut follows them, and then the place and the value of
-// the chunk's maximum point. Refused by grounds 1 and 2, with the scanner untouched and zeros told. Fed once per chunk, a
-// scanner is fresh at each call: a small window then takes a fast path, byte by byte. What is refused or empty goes the
-// other way, and the part is lent on as a slice of its own, so that the fast path needs few registers.
+// the chunk's maximum point. Refused by grounds 1 and 2, with the scanner untouched and zeros told.
 #[unsafe(no_mangle)]
 pub extern "C" fn hirunvel_scanner_feed(
     scanner: &mut [u32; 4],
