@@ -1,5 +1,5 @@
 -- The grounds on which a quote or a take is turned away before its first chunk.
-use Rattle.std.specs.Prelude.{ℕ, Bool, ◌&&◌, List, [], ◌∷◌, leb, length}
+use Rattle.std.specs.Prelude.{ℕ, Bool, ◌&&◌, List, [], ◌∷◌, leb, length, Option}
 use Rattle.refusal.specs.Grounds.{unless, first}
 use Rattle.refusal.specs.declared.Refusal.{Refusal}
 use Rattle.refusal.specs.declared.Refusal.TheVariants.{JobLength}
@@ -15,11 +15,11 @@ unfoldable pub job_allowed : List ℕ → Bool
 job_allowed job = leb 1 (length job) && leb (length job) job_limit
 
 -- ground 3
-abbrev pub job_ground : List ℕ → Refusal
+abbrev pub job_ground : List ℕ → Option Refusal
 job_ground job = unless (job_allowed job) JobLength
 
 -- "admission 1 and 3 to 8", and 11 and 12 "both after 5 and before 6": the first of the grounds 1, 3 to 5, 11 and 12 that holds
-unfoldable pub admission_ground : Head → List ℕ → List ℕ → List ℕ → List ℕ → List ℕ → Refusal
+unfoldable pub admission_ground : Head → List ℕ → List ℕ → List ℕ → List ℕ → List ℕ → Option Refusal
 admission_ground head pool directory index recipe job =
     first
     (window_ground head.window

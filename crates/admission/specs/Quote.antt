@@ -1,8 +1,7 @@
 -- A quote: the answer, and the recipe at exit, by the store as a list of chunks.
-use Rattle.std.specs.Prelude.{ℕ, cond, List, pos, length, take}
+use Rattle.std.specs.Prelude.{ℕ, cond, List, pos, length, take, None, Option}
 use Rattle.refusal.specs.Number.{accepted}
 use Rattle.refusal.specs.declared.Refusal.{Refusal}
-use Rattle.refusal.specs.declared.Refusal.TheVariants.{Accepted}
 use Rattle.chunker.specs.Chunks.{total}
 use Rattle.store.specs.declared.Head.{Head}
 use Rattle.store.specs.Contents.{added, repeated, numbers}
@@ -14,7 +13,7 @@ use Rattle.admission.specs.declared.Quoted.{Quoted}
 use Rattle.admission.specs.Grounds.{admission_ground}
 
 -- "lengths and counts, 0 if refused"
-abbrev pub refused : Refusal → Quoted
+abbrev pub refused : Option Refusal → Quoted
 refused refusal =
     record {
       refusal = refusal;
@@ -30,7 +29,7 @@ refused refusal =
 abbrev pub counted : ℕ → List ℕ → List (List ℕ) → List (List ℕ) → Quoted
 counted w job held cs =
     record {
-      refusal = Accepted;
+      refusal = None;
       recipe_length = length cs;
       new_bytes = total (added held cs);
       repeated_bytes = total (repeated held cs);

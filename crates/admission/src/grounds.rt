@@ -1,5 +1,6 @@
 // The grounds on which a quote or a take is turned away before its first chunk.
 ghost use Rattle.std.specs.Prelude.{◌≡◌};
+ghost use Rattle.std.specs.Result.{result_err};
 ghost use Rattle.admission.specs.Grounds.{job_allowed, admission_ground};
 
 use crate::JOB_LIMIT;
@@ -10,10 +11,7 @@ use store::Head;
 fn job_allowed(job: &[u8]) -> bool
     ensures { result ≡ job_allowed job.now }
 {
-    if job.len() < 1 {
-        return false;
-    }
-    job.len() <= JOB_LIMIT
+    1 <= job.len() && job.len() <= JOB_LIMIT
 }
 
 // The first of the grounds 1, 3 to 5, 11 and 12 that holds, if any. A recipe over its limit is ground 4, so it is
@@ -25,21 +23,12 @@ pub fn admission_ground(
     index: &[u32],
     recipe: &[u32],
     job: &[u8],
-) -> Refusal
-    ensures { result ≡ admission_ground head pool.now directory.now index.now recipe.now job.now }
+) -> Result<(), Refusal>
+    ensures { result_err result ≡ admission_ground head pool.now directory.now index.now recipe.now job.now }
 {
-    if !chunker::window_allowed(head.window) {
-        return Refusal::Window;
-    }
-    if !job_allowed(job) {
-        return Refusal::JobLength;
-    }
-    if !store::recipe_allowed(recipe) {
-        return Refusal::MemoryLimit;
-    }
-    let ground = store::store_ground(head, pool, directory);
-    if !refusal::accepted(ground) {
-        return ground;
-    }
+    refusal::unless(chunker::window_allowed(head.window), Refusal::Window)?;
+    refusal::unless(job_allowed(job), Refusal::JobLength)?;
+    refusal::unless(store::recipe_allowed(recipe), Refusal::MemoryLimit)?;
+    store::store_ground(head, pool, directory)?;
     index::index_ground(head, pool, directory, index)
 }

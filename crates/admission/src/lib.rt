@@ -2,7 +2,7 @@
 // answers the same and stores the job's new chunks.
 #![tactic(auto)]
 
-ghost use Rattle.std.specs.Prelude.{◌≡◌, ◌≤◌};
+ghost use Rattle.std.specs.Prelude.{◌≡◌, ◌≤◌, Some};
 ghost use Rattle.store.specs.Limits.{job_limit};
 ghost use Rattle.admission.specs.Quote.{refused, quoted};
 ghost use Rattle.admission.specs.Take.{taken};
@@ -19,10 +19,10 @@ use survey::{Progress, Surveyed};
 pub const JOB_LIMIT: usize = 16777216;
 
 // The recipe's length, the bytes of the new chunks and of the others, what the job saves on the link, and its cuts by the
-// values of their maximum points.
+// values of their maximum points. All counts of a refused quote are 0 (`refused`), so the refusal stands beside them.
 #[derive(Clone, Copy)]
 pub struct Quoted {
-    pub refusal: Refusal,
+    pub refusal: Option<Refusal>,
     pub recipe_length: u32,
     pub new_bytes: u32,
     pub repeated_bytes: u32,
@@ -38,11 +38,11 @@ pub struct Taken {
 }
 
 // All counts 0.
-fn refused(refusal: Refusal) -> Quoted
-    ensures { result ≡ refused refusal }
+fn refused(ground: Refusal) -> Quoted
+    ensures { result ≡ refused (Some ground) }
 {
     Quoted {
-        refusal,
+        refusal: Some(ground),
         recipe_length: 0,
         new_bytes: 0,
         repeated_bytes: 0,
@@ -56,14 +56,12 @@ fn answered(job_length: usize, surveyed: Surveyed) -> Quoted
     requires { job_length ≤ job_limit }
     ensures { result ≡ answered job_length surveyed.refusal surveyed.progress surveyed.cuts }
 {
-    let refusal = surveyed.refusal;
-    if !refusal::accepted(refusal) {
-        return refused(refusal);
+    if let Some(ground) = surveyed.refusal {
+        return refused(ground);
     }
     let progress = surveyed.progress;
-    let cuts = surveyed.cuts;
     Quoted {
-        refusal: Refusal::Accepted,
+        refusal: None,
         recipe_length: progress.recipe_length,
         new_bytes: progress.new_bytes,
         repeated_bytes: progress.repeated_bytes,
@@ -72,7 +70,7 @@ fn answered(job_length: usize, surveyed: Surveyed) -> Quoted
             progress.new_bytes,
             progress.recipe_length,
         ),
-        cuts,
+        cuts: surveyed.cuts,
     }
 }
 
@@ -80,12 +78,10 @@ fn answered(job_length: usize, surveyed: Surveyed) -> Quoted
 fn head_after(head: Head, progress: Progress) -> Head
     ensures { result ≡ head_after head progress }
 {
-    let chunks = progress.chunks;
-    let filled = progress.filled;
     Head {
         window: head.window,
-        chunks,
-        filled,
+        chunks: progress.chunks,
+        filled: progress.filled,
     }
 }
 
@@ -101,13 +97,12 @@ pub fn quote(
     ensures { record { answer = result; recipe = recipe.new }
         ≡ quoted head pool.now directory.now index.now recipe.old job.now }
 {
-    let ground = grounds::admission_ground(head, pool, directory, index, recipe, job);
-    if !refusal::accepted(ground) {
+    if let Err(ground) = grounds::admission_ground(head, pool, directory, index, recipe, job) {
         return refused(ground);
     }
     let surveyed = survey::survey(head, pool, directory, index, recipe, job);
-    let progress = surveyed.progress;
-    marks::settle(recipe, progress.recipe_length as usize, head.chunks);
+    let used = surveyed.progress.recipe_length as usize;
+    marks::settle(&mut recipe[..used], head.chunks);
     answered(job.len(), surveyed)
 }
 
@@ -130,28 +125,25 @@ pub fn take(
     }
         ≡ taken head pool.old directory.old index.old recipe.old job.now }
 {
-    let ground = grounds::admission_ground(head, pool, directory, index, recipe, job);
-    if !refusal::accepted(ground) {
+    if let Err(ground) = grounds::admission_ground(head, pool, directory, index, recipe, job) {
         return Taken {
             quoted: refused(ground),
             head,
         };
     }
     let surveyed = survey::survey(head, pool, directory, index, recipe, job);
-    let refusal = surveyed.refusal;
-    let progress = surveyed.progress;
-    let used = progress.recipe_length as usize;
-    if !refusal::accepted(refusal) {
-        marks::settle(recipe, used, head.chunks);
+    let used = surveyed.progress.recipe_length as usize;
+    if let Some(ground) = surveyed.refusal {
+        marks::settle(&mut recipe[..used], head.chunks);
         return Taken {
-            quoted: refused(refusal),
+            quoted: refused(ground),
             head,
         };
     }
-    storing::store_new(head, pool, directory, index, recipe, used, job);
-    marks::settle(recipe, used, head.chunks);
+    storing::store_new(head, pool, directory, index, &recipe[..used], job);
+    marks::settle(&mut recipe[..used], head.chunks);
     Taken {
         quoted: answered(job.len(), surveyed),
-        head: head_after(head, progress),
+        head: head_after(head, surveyed.progress),
     }
 }

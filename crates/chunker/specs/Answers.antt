@@ -1,8 +1,8 @@
 -- What each public function answers, on accepted and refused input alike.
-use Rattle.std.specs.Prelude.{ℕ, false, cond, List}
+use Rattle.std.specs.Prelude.{ℕ, false, cond, List, None, Option, Some}
 use Rattle.refusal.specs.Number.{accepted}
 use Rattle.refusal.specs.declared.Refusal.{Refusal}
-use Rattle.refusal.specs.declared.Refusal.TheVariants.{Accepted, Window}
+use Rattle.refusal.specs.declared.Refusal.TheVariants.{Window}
 use Rattle.scan.specs.declared.Scanner.{Scanner}
 use Rattle.chunker.specs.declared.Opened.{Opened}
 use Rattle.scan.specs.declared.Fed.{Fed}
@@ -15,11 +15,11 @@ use Rattle.scan.specs.Scan.{scan}
 unfoldable pub opened : ℕ → Opened
 opened w =
     cond (window_allowed w)
-    (record { refusal = Accepted; scanner = fresh w })
-    (record { refusal = Window; scanner = fresh 0 })
+    (record { refusal = None; scanner = fresh w })
+    (record { refusal = Some Window; scanner = fresh 0 })
 
 -- the answer where no byte is passed: "hands the scanner back, consumes 0 and reports no cut", "without a cut both are 0"
-abbrev pub unmoved : Refusal → Scanner → Fed
+abbrev pub unmoved : Option Refusal → Scanner → Fed
 unmoved refusal s = record { refusal = refusal; scanner = s; consumed = 0; cut = false; place = 0; value = 0 }
 
 -- "feeding tests 1 and 2"; a refused feed passes no byte

@@ -1,5 +1,5 @@
 -- The scanner's numbers: when a window is allowed, a scanner sound, and which ground is reported.
-use Rattle.std.specs.Prelude.{ℕ, ◌+◌, ◌*◌, Bool, ◌&&◌, ◌||◌, [], ◌∷◌, leb, ltb, eqb}
+use Rattle.std.specs.Prelude.{ℕ, ◌+◌, ◌*◌, Bool, ◌&&◌, ◌||◌, [], ◌∷◌, leb, ltb, eqb, Option}
 use Rattle.refusal.specs.declared.Refusal.{Refusal}
 use Rattle.refusal.specs.declared.Refusal.TheVariants.{Window, Unsound}
 use Rattle.refusal.specs.Grounds.{unless, first}
@@ -25,9 +25,9 @@ unfoldable pub sound : Scanner → Bool
 sound s = untouched s || consistent s
 
 -- ground 1
-abbrev pub window_ground : ℕ → Refusal
+abbrev pub window_ground : ℕ → Option Refusal
 window_ground w = unless (window_allowed w) Window
 
 -- "feeding and finishing 1 and 2": the first that holds of a scanner
-unfoldable pub scanner_ground : Scanner → Refusal
+unfoldable pub scanner_ground : Scanner → Option Refusal
 scanner_ground s = first (window_ground s.window ∷ unless (sound s) Unsound ∷ [])

@@ -1,5 +1,6 @@
 // The grounds on which a scanner is turned away.
 ghost use Rattle.std.specs.Prelude.{◌≡◌};
+ghost use Rattle.std.specs.Result.{result_err};
 ghost use Rattle.chunker.specs.Scanner.{window_allowed, untouched, consistent, scanner_ground};
 
 use crate::{Scanner, WINDOW_LIMIT};
@@ -16,13 +17,7 @@ pub fn window_allowed(window: u32) -> bool
 fn untouched(scanner: Scanner) -> bool
     ensures { result ≡ untouched scanner }
 {
-    if scanner.count != 0 {
-        return false;
-    }
-    if scanner.place != 0 {
-        return false;
-    }
-    scanner.value == 0
+    scanner.count == 0 && scanner.place == 0 && scanner.value == 0
 }
 
 // Whether the numbers are those that some feed of at least a byte leaves. Every sum and product is taken
@@ -30,35 +25,17 @@ fn untouched(scanner: Scanner) -> bool
 fn consistent(scanner: Scanner) -> bool
     ensures { result ≡ consistent scanner }
 {
-    let place = scanner.place as u64;
-    let count = scanner.count as u64;
-    let window = scanner.window as u64;
-    let value = scanner.value as u64;
-    if place < 1 {
-        return false;
-    }
-    if count < place {
-        return false;
-    }
-    if place + window <= count {
-        return false;
-    }
-    place <= value * window + 1
+    let place = u64::from(scanner.place);
+    let count = u64::from(scanner.count);
+    let window = u64::from(scanner.window);
+    let value = u64::from(scanner.value);
+    1 <= place && place <= count && count < place + window && place <= value * window + 1
 }
 
 // The first of the grounds 1 and 2 that holds, if any.
-pub fn scanner_ground(scanner: Scanner) -> Refusal
-    ensures { result ≡ scanner_ground scanner }
+pub fn scanner_ground(scanner: Scanner) -> Result<(), Refusal>
+    ensures { result_err result ≡ scanner_ground scanner }
 {
-    let window = scanner.window;
-    if !window_allowed(window) {
-        return Refusal::Window;
-    }
-    if untouched(scanner) {
-        return Refusal::Accepted;
-    }
-    if consistent(scanner) {
-        return Refusal::Accepted;
-    }
-    Refusal::Unsound
+    refusal::unless(window_allowed(scanner.window), Refusal::Window)?;
+    refusal::unless(untouched(scanner) || consistent(scanner), Refusal::Unsound)
 }

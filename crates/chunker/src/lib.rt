@@ -19,7 +19,7 @@ pub const WINDOW_LIMIT: u32 = 64;
 // The bytes of the longest chunk: memory of this length holds any one.
 pub const CHUNK_LIMIT: u32 = 256 * WINDOW_LIMIT + 1;
 
-// What is told of the first chunk of no bytes.
+// What is told of the first chunk of no bytes: zeros, as `first_chunk` lays down.
 const NO_CHUNK: FirstChunk = FirstChunk {
     length: 0,
     cut: false,
@@ -27,16 +27,17 @@ const NO_CHUNK: FirstChunk = FirstChunk {
     value: 0,
 };
 
+// Every field of a refused answer is laid down (`opened`), so the refusal stands beside the scanner and is no `Err`.
 #[derive(Clone, Copy)]
 pub struct Opened {
-    pub refusal: Refusal,
+    pub refusal: Option<Refusal>,
     pub scanner: Scanner,
 }
 
-// The count is the length of the last chunk, 0 where there is none.
+// The count is the length of the last chunk, 0 where there is none. Of a refused answer see `finished`.
 #[derive(Clone, Copy)]
 pub struct Finished {
-    pub refusal: Refusal,
+    pub refusal: Option<Refusal>,
     pub scanner: Scanner,
     pub count: u32,
 }
@@ -47,12 +48,12 @@ pub fn open(window: u32) -> Opened
 {
     if window_allowed(window) {
         return Opened {
-            refusal: Refusal::Accepted,
+            refusal: None,
             scanner: scan::fresh(window),
         };
     }
     Opened {
-        refusal: Refusal::Window,
+        refusal: Some(Refusal::Window),
         scanner: scan::fresh(0),
     }
 }
@@ -62,40 +63,33 @@ pub fn open(window: u32) -> Opened
 pub fn feed(scanner: Scanner, part: &[u8]) -> Fed
     ensures { result ≡ fed scanner part.now }
 {
-    let refusal = ground::scanner_ground(scanner);
-    if !refusal::accepted(refusal) {
-        return Fed {
-            refusal,
-            scanner,
-            consumed: 0,
-            cut: false,
-            place: 0,
-            value: 0,
-        };
+    match ground::scanner_ground(scanner) {
+        Ok(()) => block_scan::scan(scanner, part),
+        Err(ground) => unmoved(Some(ground), scanner),
     }
-    block_scan::scan(scanner, part)
 }
 
 // Moves a fresh scanner on over a part, with the same answer. Refused by ground 1.
 pub fn feed_fresh(window: u32, part: &[u8]) -> Fed
     ensures { result ≡ fed (fresh window) part.now }
 {
+    let scanner = scan::fresh(window);
     if !window_allowed(window) {
-        return unmoved(Refusal::Window, window);
+        return unmoved(Some(Refusal::Window), scanner);
     }
-    if part.len() == 0 {
-        return unmoved(Refusal::Accepted, window);
+    if part.is_empty() {
+        return unmoved(None, scanner);
     }
     block_scan::from_start(window, part)
 }
 
-// The answer of a fresh scanner that passes no byte.
-fn unmoved(refusal: Refusal, window: u32) -> Fed
-    ensures { result ≡ unmoved refusal (fresh window) }
+// The answer where no byte is passed.
+fn unmoved(refusal: Option<Refusal>, scanner: Scanner) -> Fed
+    ensures { result ≡ unmoved refusal scanner }
 {
     Fed {
         refusal,
-        scanner: scan::fresh(window),
+        scanner,
         consumed: 0,
         cut: false,
         place: 0,
@@ -111,7 +105,7 @@ pub fn next_chunk(window: u32, job: &[u8]) -> FirstChunk
     if !window_allowed(window) {
         return NO_CHUNK;
     }
-    if job.len() == 0 {
+    if job.is_empty() {
         return NO_CHUNK;
     }
     block_scan::first_chunk(window, job)
@@ -122,19 +116,17 @@ pub fn next_chunk(window: u32, job: &[u8]) -> FirstChunk
 pub fn finish(scanner: Scanner) -> Finished
     ensures { result ≡ finished scanner }
 {
-    let refusal = ground::scanner_ground(scanner);
-    if !refusal::accepted(refusal) {
-        return Finished {
-            refusal,
+    match ground::scanner_ground(scanner) {
+        Ok(()) => Finished {
+            refusal: None,
+            scanner: scan::fresh(scanner.window),
+            count: scanner.count,
+        },
+        Err(ground) => Finished {
+            refusal: Some(ground),
             scanner,
             count: 0,
-        };
-    }
-    let window = scanner.window;
-    Finished {
-        refusal,
-        scanner: scan::fresh(window),
-        count: scanner.count,
+        },
     }
 }
 

@@ -1,2 +1,2 @@
--- laws/Grounds has what callers cite of a list of grounds; laws/NoGround the one proof by cases on all grounds.
+-- laws/Grounds and laws/Tested have what callers cite of a list of grounds, laws/NoGround of none.
 pub mod laws

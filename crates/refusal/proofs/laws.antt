@@ -1,2 +1,3 @@
 pub mod NoGround
 pub mod Grounds
+pub mod Tested

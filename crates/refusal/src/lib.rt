@@ -1,13 +1,14 @@
 #![tactic(auto)]
 
-ghost use Rattle.std.specs.Prelude.{◌≡◌};
-ghost use Rattle.refusal.specs.Number.{number_of, accepted};
+ghost use Rattle.std.specs.Prelude.{◌≡◌, Some};
+ghost use Rattle.std.specs.Result.{result_err};
+ghost use Rattle.refusal.specs.Number.{number_of};
+ghost use Rattle.refusal.specs.Grounds.{unless};
 
 // The grounds for turning work away, by their numbers. The first in the paper's checking order that
-// holds is reported; `Accepted` says that none does.
-#[derive(Clone, Copy)]
+// holds is reported, as `Some` or as an error; `None` says that none does.
+#[derive(Clone, Copy, Debug, PartialEq, Eq)]
 pub enum Refusal {
-    Accepted,
     // 1: the window is not 1 to 64.
     Window,
     // 2: the scanner is not sound.
@@ -34,30 +35,38 @@ pub enum Refusal {
     Index,
 }
 
-// The paper's number of a ground; 0 where none holds.
-pub fn number(refusal: Refusal) -> u8
-    ensures { result ≡ number_of refusal }
-{
-    match refusal {
-        Refusal::Accepted => 0,
-        Refusal::Window => 1,
-        Refusal::Unsound => 2,
-        Refusal::JobLength => 3,
-        Refusal::MemoryLimit => 4,
-        Refusal::Head => 5,
-        Refusal::RecipeFull => 6,
-        Refusal::DirectoryFull => 7,
-        Refusal::PoolFull => 8,
-        Refusal::ChunkNumber => 9,
-        Refusal::OutputShort => 10,
-        Refusal::IndexLength => 11,
-        Refusal::Index => 12,
+// The paper's number of a ground.
+impl From<Refusal> for u8 {
+    ghost from_gives = { λ refusal number. number ≡ number_of (Some refusal) };
+
+    fn from(ground: Refusal) -> u8 {
+        match ground {
+            Refusal::Window => 1,
+            Refusal::Unsound => 2,
+            Refusal::JobLength => 3,
+            Refusal::MemoryLimit => 4,
+            Refusal::Head => 5,
+            Refusal::RecipeFull => 6,
+            Refusal::DirectoryFull => 7,
+            Refusal::PoolFull => 8,
+            Refusal::ChunkNumber => 9,
+            Refusal::OutputShort => 10,
+            Refusal::IndexLength => 11,
+            Refusal::Index => 12,
+        }
     }
 }
 
-// Whether no ground holds, so that the work is done.
-pub fn accepted(refusal: Refusal) -> bool
-    ensures { result ≡ accepted refusal }
+// The paper's number of the ground that is reported; 0 where none holds.
+pub fn number(refusal: Option<Refusal>) -> u8
+    ensures { result ≡ number_of refusal }
 {
-    number(refusal) == 0
+    refusal.map_or(0, u8::from)
+}
+
+// Turns work away by a ground unless its test passes. The grounds of an operation follow one another with `?`.
+pub fn unless(passes: bool, ground: Refusal) -> Result<(), Refusal>
+    ensures { result_err result ≡ unless passes ground }
+{
+    if passes { Ok(()) } else { Err(ground) }
 }

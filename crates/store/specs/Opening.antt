@@ -1,6 +1,6 @@
 -- Opening a store.
-use Rattle.std.specs.Prelude.{ℕ, cond}
-use Rattle.refusal.specs.declared.Refusal.TheVariants.{Accepted, Window}
+use Rattle.std.specs.Prelude.{ℕ, cond, None, Some}
+use Rattle.refusal.specs.declared.Refusal.TheVariants.{Window}
 use Rattle.chunker.specs.Scanner.{window_allowed}
 use Rattle.store.specs.declared.Head.{Head}
 use Rattle.store.specs.declared.Opened.{Opened}
@@ -13,5 +13,5 @@ fresh w = record { window = w; chunks = record { 0 = 0 }; filled = record { 0 = 
 unfoldable pub opened : ℕ → Opened
 opened w =
     cond (window_allowed w)
-    (record { refusal = Accepted; head = fresh w })
-    (record { refusal = Window; head = fresh 0 })
+    (record { refusal = None; head = fresh w })
+    (record { refusal = Some Window; head = fresh 0 })

@@ -1,5 +1,6 @@
 // The grounds on which a store is turned away.
 ghost use Rattle.std.specs.Prelude.{◌≡◌};
+ghost use Rattle.std.specs.Result.{result_err};
 ghost use Rattle.store.specs.Grounds.{fits, memory_allowed, recipe_allowed, store_ground};
 
 use crate::{DIRECTORY_LIMIT, Head, POOL_LIMIT, RECIPE_LIMIT};
@@ -10,13 +11,7 @@ use refusal::Refusal;
 fn memory_allowed(pool: &[u8], directory: &[u32]) -> bool
     ensures { result ≡ memory_allowed pool.now directory.now }
 {
-    if POOL_LIMIT < pool.len() {
-        return false;
-    }
-    if DIRECTORY_LIMIT < directory.len() {
-        return false;
-    }
-    directory.len() % STRIDE == 0
+    pool.len() <= POOL_LIMIT && directory.len() <= DIRECTORY_LIMIT && directory.len() % STRIDE == 0
 }
 
 // Whether a recipe is within its limit (ground 4).
@@ -30,31 +25,18 @@ pub fn recipe_allowed(recipe: &[u32]) -> bool
 fn fits(head: Head, pool: &[u8], directory: &[u32]) -> bool
     ensures { result ≡ fits head pool.now directory.now }
 {
-    let chunks = head.chunks;
-    let count = chunks.0 as usize;
-    if directory::entries(directory) < count {
-        return false;
-    }
-    let filled = head.filled;
-    let end = filled.0 as u64;
-    if (pool.len() as u64) < end {
-        return false;
-    }
-    directory::laid_out(head.window, directory, count, end)
+    let count = head.chunks.0 as usize;
+    let filled = head.filled.0 as usize;
+    count <= directory::entries(directory)
+        && filled <= pool.len()
+        && directory::laid_out(head.window, directory, count, filled as u64)
 }
 
 // The first of the grounds 1, 4 and 5 that holds of a store, if any.
-pub fn store_ground(head: Head, pool: &[u8], directory: &[u32]) -> Refusal
-    ensures { result ≡ store_ground head pool.now directory.now }
+pub fn store_ground(head: Head, pool: &[u8], directory: &[u32]) -> Result<(), Refusal>
+    ensures { result_err result ≡ store_ground head pool.now directory.now }
 {
-    if !chunker::window_allowed(head.window) {
-        return Refusal::Window;
-    }
-    if !memory_allowed(pool, directory) {
-        return Refusal::MemoryLimit;
-    }
-    if !fits(head, pool, directory) {
-        return Refusal::Head;
-    }
-    Refusal::Accepted
+    refusal::unless(chunker::window_allowed(head.window), Refusal::Window)?;
+    refusal::unless(memory_allowed(pool, directory), Refusal::MemoryLimit)?;
+    refusal::unless(fits(head, pool, directory), Refusal::Head)
 }

@@ -1,7 +1,9 @@
-// The store: a head, a lent pool of chunk bytes and a lent directory of their places.
+// The store: a head, a lent pool of chunk bytes and a lent directory of their places. They are handed in one by one, as C lends
+// them: a quote reads pool and directory and a take writes them, so a struct would be needed twice, with the same fields.
 #![tactic(auto)]
 
 ghost use Rattle.std.specs.Prelude.{◌≡◌};
+ghost use Rattle.std.specs.Result.{result_err};
 ghost use Rattle.store.specs.Opening.{fresh, opened};
 ghost use Rattle.store.specs.Grounds.{look_ground};
 ghost use Rattle.store.specs.Looking.{stretch_of, shown};
@@ -32,9 +34,11 @@ pub struct Head {
     pub filled: PoolOffset,
 }
 
+// As the chunker's: a refused opening gives all zeros (`opened`), so the refusal stands beside the head. A struct for both would have
+// one name for a scanner and a head.
 #[derive(Clone, Copy)]
 pub struct Opened {
-    pub refusal: Refusal,
+    pub refusal: Option<Refusal>,
     pub head: Head,
 }
 
@@ -62,33 +66,31 @@ pub fn open(window: u32) -> Opened
 {
     if chunker::window_allowed(window) {
         return Opened {
-            refusal: Refusal::Accepted,
+            refusal: None,
             head: fresh(window),
         };
     }
     Opened {
-        refusal: Refusal::Window,
+        refusal: Some(Refusal::Window),
         head: fresh(0),
     }
 }
 
 // The first of the grounds 1, 4, 5 and 9 on which a look at a chunk is refused, if any.
-pub fn look_ground(head: Head, pool: &[u8], directory: &[u32], number: ChunkNumber) -> Refusal
-    ensures { result ≡ look_ground head pool.now directory.now number }
+pub fn look_ground(
+    head: Head,
+    pool: &[u8],
+    directory: &[u32],
+    number: ChunkNumber,
+) -> Result<(), Refusal>
+    ensures { result_err result ≡ look_ground head pool.now directory.now number }
 {
-    let ground = store_ground(head, pool, directory);
-    if !refusal::accepted(ground) {
-        return ground;
-    }
-    let chunks = head.chunks;
-    if number.0 < chunks.0 {
-        return Refusal::Accepted;
-    }
-    Refusal::ChunkNumber
+    store_ground(head, pool, directory)?;
+    refusal::unless(number.0 < head.chunks.0, Refusal::ChunkNumber)
 }
 
-// Where a number's entry says that its bytes are, for a caller that has tested the grounds; zeros
-// where the directory has no such entry.
+// Where a number's entry says that its bytes are, for a caller that has tested the grounds; zeros, as
+// the definition lays down, where the directory has no such entry.
 pub fn stretch_of(directory: &[u32], number: ChunkNumber) -> Stretch
     ensures { result ≡ stretch_of directory.now number.0 }
 {
@@ -115,13 +117,12 @@ pub fn look<'p, 'd>(
     ensures { record { bytes = result.now; start = result.ref_ptr }
         ≡ shown head pool.entry.ref_ptr pool.now directory.now number }
 {
-    let ground = look_ground(head, pool, directory, number);
-    if !refusal::accepted(ground) {
-        return &pool[0..0];
+    match look_ground(head, pool, directory, number) {
+        Ok(()) => {
+            let stretch = stretch_of(directory, number);
+            let from = stretch.offset.0 as usize;
+            &pool[from..from + stretch.length as usize]
+        }
+        Err(_) => &pool[..0],
     }
-    let stretch = stretch_of(directory, number);
-    let offset = stretch.offset;
-    let from = offset.0 as usize;
-    let to = from + stretch.length as usize;
-    &pool[from..to]
 }

@@ -1,10 +1,11 @@
 -- What a quote and a take come to, by the tests in the order in which the code makes them.
 use Prim.Native.Nat.{ℕ, ◌+◌, ◌^◌, ◌≤◌, ◌<◌}
-use mathlib.Core.Path.{◌≡◌, refl, ap, ◌∙◌}
+use mathlib.Core.Path.{◌≡◌, refl, sym, ap, ◌∙◌, subst}
 use mathlib.Core.Bool.{Bool, true, false, cond}
 use mathlib.Core.List.{List, [], ◌++◌}
 use lib.ListN.{length, take, drop}
 use Rattle.refusal.specs.Number.{accepted}
+use Rattle.std.specs.Prelude.{Option}
 use Rattle.refusal.specs.declared.Refusal.{Refusal}
 use Rattle.cut_counts.specs.declared.CutCounts.{CutCounts}
 use Rattle.cut_counts.specs.CutCounts.{cut_counts}
@@ -14,22 +15,23 @@ use Rattle.store.specs.Contents.{added}
 use Rattle.store.specs.Memory.{contents}
 use Rattle.marks.specs.Marks.{new_chunks, settled}
 use Rattle.marks.specs.internal.Places.{NamesEarlier}
+use Rattle.storing.specs.internal.Storable.{Storable}
 use Rattle.storing.specs.Storing.{pool_with, directory_with, index_with}
 use Rattle.survey.specs.declared.Progress.{Progress}
 use Rattle.survey.specs.Walk.{Walk, job_walk}
 use Rattle.survey.specs.internal.Snapshot.{Snapshot, Outcome, ends}
-use Rattle.survey.specs.internal.Surveyed.{progress_after, survey_after}
+use Rattle.survey.specs.internal.Surveyed.{progress_after, survey_after, surveyed}
 use Rattle.survey.specs.internal.Begun.{Begun}
 use Rattle.admission.specs.Grounds.{admission_ground}
 use Rattle.admission.specs.Quote.{Quotation, refused, quoted}
 use Rattle.admission.specs.Take.{Taking, new_of, stores, taken}
 use Rattle.admission.specs.internal.Answers.{counted_by, answered, head_after}
 use Rattle.admission.proofs.laws.grounds.Passed.{all_passed}
-use Rattle.admission.proofs.laws.Surveyed as surveyed
-use Rattle.admission.proofs.laws.Surveyed.{begun, settled_recipe_lem}
+use Rattle.admission.proofs.laws.Surveyed as walked
+use Rattle.admission.proofs.laws.Surveyed.{begun, used_places_lem, few_numbers, earlier_named, settled_recipe_lem}
 
 -- an answer tells the cuts only where no chunk is refused
-pub answered_cuts : (n : ℕ) (ground : Refusal) (p : Progress) (c d : CutCounts) → (accepted ground ≡ true → c ≡ d)
+pub answered_cuts : (n : ℕ) (ground : Option Refusal) (p : Progress) (c d : CutCounts) → (accepted ground ≡ true → c ≡ d)
     → answered n ground p c ≡ answered n ground p d
 unfolding answered
 answered_cuts n ground p c d same = by_test (accepted ground) refl
@@ -38,12 +40,15 @@ answered_cuts n ground p c d same = by_test (accepted ground) refl
     by_test true e = ap (counted_by n p) (same e)
     by_test false e = refl
 
--- the marks that a survey left may be settled
-abbrev pub Settleable : Head → Outcome → Type 0
-Settleable head o =
-    (o.snapshot.progress.recipe_length ≤ length o.snapshot.recipe)
-    × ((head.chunks.0 + o.snapshot.progress.recipe_length < 2 ^ 32)
-    × NamesEarlier o.snapshot.recipe o.snapshot.progress.recipe_length)
+-- the marks that a survey left
+abbrev pub used_marks : Outcome → List ℕ
+used_marks o = take o.snapshot.progress.recipe_length o.snapshot.recipe
+
+-- may be settled
+pub record Settleable (head : Head) (o : Outcome) : Type 0 where
+  pub within : o.snapshot.progress.recipe_length ≤ length o.snapshot.recipe
+  pub room : head.chunks.0 + length (used_marks o) < 2 ^ 32
+  pub names : NamesEarlier (used_marks o) (length (used_marks o))
 
 -- the recipe with the marks that a survey left settled
 abbrev pub settled_recipe : Head → Snapshot → List ℕ
@@ -150,10 +155,45 @@ module _ (head : Head) (pool directory index recipe job : List ℕ) where
         → stored_to head pool directory index job (new_in job survey) survey ≡ taken head pool directory index recipe job
     unfolding taken answered
     take_walked bytes walks =
-        let all = surveyed.all_passed head pool directory recipe job begins walks in
-        let new = surveyed.new_marked head pool directory recipe job begins bytes walks in
+        let all = walked.all_passed head pool directory recipe job begins walks in
+        let new = walked.new_marked head pool directory recipe job begins bytes walks in
         let q : Quotation = record { answer = answered (length job) whole.refusal progress cuts; recipe = settles } in
         let last : stores head pool directory index (new_of head pool directory job) q ≡ taken head pool directory index recipe job =
         rw (← (quote_walked bytes), walks) in
         ap (λ cs. stored_to head pool directory index job cs survey) new
         ∙ (ap (λ cs. stores head pool directory index cs q) (ap (added held) all) ∙ last)
+
+    -- of a survey that the job's bytes went through
+    module _ (bytes : Bytes job) {o : Outcome} (e : o ≡ surveyed head pool directory recipe job) where
+      -- the marks may be settled
+      pub settleable : Settleable head o
+      unfolding surveyed
+      settleable =
+          subst (Settleable head) (sym e)
+          (record {
+            within = used_places_lem head pool directory recipe job begins;
+            room = few_numbers head pool directory recipe job begins;
+            names = earlier_named head pool directory recipe job begins bytes;
+          })
+
+      -- the new chunks stored
+      pub storable : accepted o.refusal ≡ true → Storable head pool directory index (used_marks o) (length (used_marks o)) job
+      unfolding surveyed
+      storable walks =
+          subst (λ (q : Outcome). Storable head pool directory index (used_marks q) (length (used_marks q)) job) (sym e)
+          (walked.storable head pool directory recipe job begins bytes (rw e at walks))
+
+      -- and these are a quote and a take
+      pub quote_settled : settled_to head job o ≡ quoted head pool directory index recipe job
+      unfolding surveyed
+      quote_settled = ap (settled_to head job) e ∙ quote_walked bytes
+
+      pub take_settled : accepted o.refusal ≡ false → stopped_to head pool directory index o ≡ taken head pool directory index recipe job
+      unfolding surveyed
+      take_settled stops = ap (stopped_to head pool directory index) e ∙ take_stopped bytes (rw e at stops)
+
+      pub take_stored : accepted o.refusal ≡ true
+          → stored_to head pool directory index job (new_in job o) o ≡ taken head pool directory index recipe job
+      unfolding surveyed
+      take_stored walks =
+          ap (λ (q : Outcome). stored_to head pool directory index job (new_in job q) q) e ∙ take_walked bytes (rw e at walks)

@@ -20,9 +20,10 @@ use Rattle.admission.specs.declared.Quoted.{Quoted}
 use Rattle.admission.specs.Grounds.{job_allowed, admission_ground}
 use Rattle.admission.specs.Quote.{counted, refused, walked, quoted}
 use Rattle.admission.proofs.laws.Outcomes.{quote_refused}
+use Rattle.std.specs.Prelude.{Option}
 
 -- it is none of 6 to 8
-abbrev Early : Refusal → Type 0
+abbrev Early : Option Refusal → Type 0
 Early ground = (number_of ground ≤ 5) ⊎ (11 ≤ number_of ground)
 
 -- the first of the seven, by their tests
@@ -76,7 +77,7 @@ module _ (head : Head) (pool directory index recipe job : List ℕ) where
     quote_refusal = rw quote_walks (walked_refusal head.window job _ recipe (job_walk head pool directory recipe job))
 
   -- a quote that is refused on one of 6 to 8 is refused by its walk
-  pub chunk_refused : (ground : Refusal) → 6 ≤ number_of ground → number_of ground ≤ 8
+  pub chunk_refused : (ground : Option Refusal) → 6 ≤ number_of ground → number_of ground ≤ 8
       → (quoted head pool directory index recipe job).answer.refusal ≡ ground
       → (accepted (admission_ground head pool directory index recipe job) ≡ true)
       × ((job_walk head pool directory recipe job).refusal ≡ ground)

@@ -6,7 +6,7 @@ use mathlib.Core.Path.{◌≡◌, sym, ap, ap₂, ◌∙◌}
 use mathlib.Core.Bool.{true, and-eq-true_iff}
 use mathlib.Core.List.{List, [], ◌++◌, append-nil}
 use lib.ListN.{length, take, drop}
-use lib.Seq.{take_at, drop_at}
+use lib.Seq.{take_at, drop_at, take-length, length-take-le}
 use borrow.Author.Tests.{leb-true}
 use Rattle.refusal.specs.Number.{accepted}
 use Rattle.chunker.specs.Bytes.{Bytes}
@@ -25,6 +25,7 @@ use Rattle.marks.specs.internal.Places.{NamesEarlier}
 use Rattle.marks.proofs.laws.Marking.{length_marks, Places}
 use Rattle.marks.proofs.laws.Positions.{total_within}
 use Rattle.marks.proofs.laws.Appearing.{names_earlier_lem, sizes_marks}
+use Rattle.marks.proofs.laws.Settling.{names_first}
 use Rattle.marks.proofs.laws.Numbering.{settled_marks}
 use Rattle.marks.proofs.laws.Storing.{new_chunks_lem}
 use Rattle.storing.specs.internal.Storable.{Storable}
@@ -94,9 +95,12 @@ module _ (head : Head) (pool directory recipe job : List ℕ) {index : List ℕ}
   pub used_places_lem : length whole.passed ≤ length marked
   used_places_lem = omega (arith, marked_length, room.places)
 
-  pub few_numbers : head.chunks.0 + length whole.passed < 2 ^ 32
+  used_length : length (take (length whole.passed) marked) ≡ length whole.passed
+  used_length = length-take-le (length whole.passed) marked used_places_lem
+
+  pub few_numbers : head.chunks.0 + length (take (length whole.passed) marked) < 2 ^ 32
   few_numbers =
-      omega (arith, room.places, b.recipe_length, (fits_facts head pool directory b.fitting).counted, b.directory_length)
+      omega (arith, used_length, room.places, b.recipe_length, (fits_facts head pool directory b.fitting).counted, b.directory_length)
 
   -- where it refuses none, there is room for the new chunks
   module _ (accepts : accepted whole.refusal ≡ true) where
@@ -126,8 +130,8 @@ module _ (head : Head) (pool directory recipe job : List ℕ) {index : List ℕ}
         }
 
     -- may be settled
-    pub earlier_named : NamesEarlier marked (length whole.passed)
-    earlier_named = names_earlier_lem head.window job held whole.passed up_to.rest places _
+    pub earlier_named : NamesEarlier (take (length whole.passed) marked) (length (take (length whole.passed) marked))
+    earlier_named = names_first used_places_lem (names_earlier_lem head.window job held whole.passed up_to.rest places _)
 
     -- and come to the numbers
     pub settled_recipe_lem : settled head.chunks.0 [] (take (length whole.passed) marked) ++ drop (length whole.passed) marked
@@ -164,7 +168,7 @@ module _ (head : Head) (pool directory recipe job : List ℕ) {index : List ℕ}
           ap (new_chunks job 0) (take_at ms (drop (length ms) recipe) (length whole.passed) mark_count)
           ∙ new_chunks_lem head.window job held [] whole.passed [] all_places
 
-      pub storable : Storable head pool directory index marked (length whole.passed) job
+      pub storable : Storable head pool directory index (take (length whole.passed) marked) (length (take (length whole.passed) marked)) job
       storable =
           let ms = marks held [] whole.passed in
           let marked_first = take_at ms (drop (length ms) recipe) (length whole.passed) mark_count in
@@ -173,10 +177,10 @@ module _ (head : Head) (pool directory recipe job : List ℕ) {index : List ℕ}
             pool_length = b.pool_length;
             directory_length = b.directory_length;
             index_length = omega (arith, length_fits directory index b.index_length);
-            recipe_length = omega (arith, marked_length, b.recipe_length);
+            recipe_length = omega (arith, used_length, room.places, b.recipe_length);
             job_length = b.job_length;
-            used_places = used_places_lem;
-            inside = rw (marked_first, sized) (total_within head.window b.window whole.passed job [] all_places.whole);
-            bytes = rw new_marked (bytes_room accepts);
-            entries = rw new_marked (omega (arith, entries_room accepts));
+            used_places = omega arith;
+            inside = rw (take-length, marked_first, sized) (total_within head.window b.window whole.passed job [] all_places.whole);
+            bytes = rw (take-length, new_marked) (bytes_room accepts);
+            entries = rw (take-length, new_marked) (omega (arith, entries_room accepts));
           }

@@ -15,6 +15,7 @@ use Rattle.admission.specs.Quote.{refused, counted, walked, quoted}
 use Rattle.admission.specs.Take.{taken}
 use Rattle.admission.proofs.laws.Asked.{asked}
 use Rattle.admission.proofs.theorems.QuoteAndTake.{same_quotation, same_refusal}
+use Rattle.std.specs.Prelude.{Option}
 
 module _ (head : Head) (pool directory index recipe job : List ℕ) where
   -- a quote that is not refused tells the counts of the job's cuts
@@ -39,7 +40,7 @@ module _ (head : Head) (pool directory index recipe job : List ℕ) where
       held : List (List ℕ)
       held = contents pool directory head.chunks.0
 
-      ground : Refusal
+      ground : Option Refusal
       ground = admission_ground head pool directory index recipe job
 
       whole : Walk

@@ -20,6 +20,7 @@ use Rattle.admission.specs.Quote.{Quotation, refused, walked, quoted}
 use Rattle.admission.specs.Take.{quotation_of, new_of, stores, refuses, taken}
 use Rattle.admission.proofs.laws.Surveyed.{room}
 use Rattle.admission.proofs.laws.Outcomes.{begins}
+use Rattle.std.specs.Prelude.{Option}
 
 -- what a take answers and leaves in the recipe is its quote
 pub same_quotation : (head : Head) (pool directory index recipe job : List ℕ)
@@ -45,7 +46,7 @@ module _ (head : Head) (pool directory index recipe job : List ℕ) where
   abbrev held : List (List ℕ)
   held = contents pool directory head.chunks.0
 
-  abbrev ground : Refusal
+  abbrev ground : Option Refusal
   ground = admission_ground head pool directory index recipe job
 
   abbrev whole : Walk

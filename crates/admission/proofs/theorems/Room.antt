@@ -30,6 +30,7 @@ use Rattle.admission.proofs.laws.Chunks.{total_chunks}
 use Rattle.admission.proofs.laws.Refusals.{quote_refusal, chunk_refused}
 use Rattle.admission.proofs.theorems.ChunkCount.{chunk_count}
 use Rattle.admission.proofs.theorems.QuoteAndTake.{same_refusal}
+use Rattle.std.specs.Prelude.{Option, Some}
 
 -- a job is accepted by quote and take
 pub record Accepts (head : Head) (pool directory index recipe job : List ℕ) : Type 0 where
@@ -68,13 +69,13 @@ module _ (head : Head) (pool directory index recipe job : List ℕ) where
       record { quotes = quotes; takes = ap accepted (same_refusal head pool directory index recipe job) ∙ quotes }
 
   -- a quote or a take of the job reports a ground
-  abbrev pub Reports : Refusal → Type 0
+  abbrev pub Reports : Option Refusal → Type 0
   Reports ground =
       ((quoted head pool directory index recipe job).answer.refusal ≡ ground)
       ⊎ ((taken head pool directory index recipe job).answer.quoted.refusal ≡ ground)
 
   -- one of 6 to 8 is reported where no earlier ground holds and the walk ends with it
-  reported : (ground : Refusal) → 6 ≤ number_of ground → number_of ground ≤ 8 → Reports ground
+  reported : (ground : Option Refusal) → 6 ≤ number_of ground → number_of ground ≤ 8 → Reports ground
       → (accepted (admission_ground head pool directory index recipe job) ≡ true)
       × ((job_walk head pool directory recipe job).refusal ≡ ground)
   reported ground late soon =
@@ -82,7 +83,7 @@ module _ (head : Head) (pool directory index recipe job : List ℕ) where
       (λ e. chunk_refused head pool directory index recipe job ground late soon (sym (same_refusal head pool directory index recipe job) ∙ e))
 
   -- what a job lacks of which a chunk is refused
-  lacks : (ground : Refusal) → (job_walk head pool directory recipe job).refusal ≡ ground
+  lacks : (ground : Option Refusal) → (job_walk head pool directory recipe job).refusal ≡ ground
       → Lacks (room_in pool directory recipe) (length cs) (grown held cs) ground
   lacks ground e =
       let room = room_in pool directory recipe in
@@ -91,20 +92,20 @@ module _ (head : Head) (pool directory index recipe job : List ℕ) where
       (walk_lacks room 0 held cs))
 
   -- "At this piece, the recipe is full": the job has more chunks than the recipe has places
-  pub full_recipe : Reports RecipeFull → length recipe < length (chunks head.window job)
-  full_recipe r = lacks RecipeFull (reported RecipeFull (omega arith) (omega arith) r).1
+  pub full_recipe : Reports (Some RecipeFull) → length recipe < length (chunks head.window job)
+  full_recipe r = lacks (Some RecipeFull) (reported (Some RecipeFull) (omega arith) (omega arith) r).1
 
   -- "This piece is new and the directory has no unused entry": store and job have more chunks than the directory has entries
-  pub full_directory : Reports DirectoryFull → entries directory < head.chunks.0 + length (new_of head pool directory job)
+  pub full_directory : Reports (Some DirectoryFull) → entries directory < head.chunks.0 + length (new_of head pool directory job)
   full_directory r =
-      let none = reported DirectoryFull (omega arith) (omega arith) r in
-      let more : entries directory < length (grown held cs) = lacks DirectoryFull none.1 in
+      let none = reported (Some DirectoryFull) (omega arith) (omega arith) r in
+      let more : entries directory < length (grown held cs) = lacks (Some DirectoryFull) none.1 in
       omega (arith, more, length_grown held cs, contents_length pool directory 0 head.chunks.0)
 
   -- "This piece is new and longer than the pool bytes after filled": store and new chunks have more bytes than the pool
-  pub full_pool : Reports PoolFull → length pool < head.filled.0 + total (new_of head pool directory job)
+  pub full_pool : Reports (Some PoolFull) → length pool < head.filled.0 + total (new_of head pool directory job)
   full_pool r =
-      let none = reported PoolFull (omega arith) (omega arith) r in
+      let none = reported (Some PoolFull) (omega arith) (omega arith) r in
       let p = all_passed head pool directory index recipe job none.0 in
-      let more : length pool < total (grown held cs) = lacks PoolFull none.1 in
+      let more : length pool < total (grown held cs) = lacks (Some PoolFull) none.1 in
       omega (arith, more, total_grown held cs, total_contents head pool directory p.fitting)

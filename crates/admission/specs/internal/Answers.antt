@@ -1,8 +1,7 @@
 -- The answer to a job that was surveyed, by what the survey counted.
-use Rattle.std.specs.Prelude.{ℕ, cond}
+use Rattle.std.specs.Prelude.{ℕ, cond, None, Option}
 use Rattle.refusal.specs.Number.{accepted}
 use Rattle.refusal.specs.declared.Refusal.{Refusal}
-use Rattle.refusal.specs.declared.Refusal.TheVariants.{Accepted}
 use Rattle.cut_counts.specs.declared.CutCounts.{CutCounts}
 use Rattle.store.specs.declared.Head.{Head}
 use Rattle.survey.specs.declared.Progress.{Progress}
@@ -14,7 +13,7 @@ use Rattle.admission.specs.Quote.{refused}
 abbrev pub counted_by : ℕ → Progress → CutCounts → Quoted
 counted_by job_length p cuts =
     record {
-      refusal = Accepted;
+      refusal = None;
       recipe_length = p.recipe_length;
       new_bytes = p.new_bytes;
       repeated_bytes = p.repeated_bytes;
@@ -23,7 +22,7 @@ counted_by job_length p cuts =
     }
 
 -- where no chunk was refused
-unfoldable pub answered : ℕ → Refusal → Progress → CutCounts → Quoted
+unfoldable pub answered : ℕ → Option Refusal → Progress → CutCounts → Quoted
 answered job_length refusal p cuts = cond (accepted refusal) (counted_by job_length p cuts) (refused refusal)
 
 -- the next chunk number and pool offset as a head

@@ -3,14 +3,15 @@ use Prim.Native.Nat.{ℕ}
 use mathlib.Core.Path.{◌≡◌, refl}
 use mathlib.Core.Bool.{Bool, true, false, cond}
 use Rattle.refusal.specs.Number.{accepted}
-use Rattle.refusal.specs.declared.Refusal.TheVariants.{Accepted, Window}
+use Rattle.refusal.specs.declared.Refusal.TheVariants.{Window}
 use Rattle.chunker.specs.declared.Opened.{Opened}
 use Rattle.chunker.specs.Scanner.{window_allowed}
 use Rattle.chunker.specs.Answers.{opened}
+use Rattle.std.specs.Prelude.{None, Some}
 
 module _ (w : ℕ) (o : Opened) (e : o ≡ opened w) where
   -- it is refused by ground 1 alone
-  pub opened_ground : o.refusal ≡ cond (window_allowed w) Accepted Window
+  pub opened_ground : o.refusal ≡ cond (window_allowed w) None (Some Window)
   unfolding opened
   opened_ground = rw e (by_test (window_allowed w) _ _)
     where
@@ -22,6 +23,6 @@ module _ (w : ℕ) (o : Opened) (e : o ≡ opened w) where
   pub opened_accepted : accepted o.refusal ≡ window_allowed w
   opened_accepted = rw opened_ground (by_test (window_allowed w))
     where
-      by_test : (x : Bool) → accepted (cond x Accepted Window) ≡ x
+      by_test : (x : Bool) → accepted (cond x None (Some Window)) ≡ x
       by_test true = refl
       by_test false = refl

@@ -6,7 +6,6 @@ use mathlib.Core.Path.{◌≡◌, refl, ap, sym, ◌∙◌}
 use mathlib.Core.Bool.{Bool, true, false, cond, true≢false}
 use mathlib.Core.List.{List, [], ◌∷◌, ◌++◌}
 use lib.ListN.{length, take, drop, length-drop}
-use Rattle.refusal.specs.declared.Refusal.TheVariants.{Accepted}
 use Rattle.refusal.specs.Number.{accepted}
 use Rattle.scan.specs.declared.Scanner.{Scanner}
 use Rattle.scan.specs.declared.Fed.{Fed}
@@ -25,9 +24,10 @@ use Rattle.scan.proofs.laws.Soundness.{fresh_sound}
 use Rattle.chunker.proofs.laws.Tracking.{Tracks, tracks_fresh, tracks_after}
 use Rattle.chunker.proofs.laws.FirstCut.{Scanned, whole, up_to, scanned, chunks_from, chunks_whole, chunks_cut}
 use Rattle.chunker.proofs.laws.FirstCut.{peaks_from, peaks_whole, peaks_cut}
+use Rattle.std.specs.Prelude.{None}
 
 -- what feeding an accepted scanner comes to
-fed_scanned : (s : Scanner) (since part : List ℕ) → scanner_ground s ≡ Accepted → Scanned s since 0 part (fed s part)
+fed_scanned : (s : Scanner) (since part : List ℕ) → scanner_ground s ≡ None → Scanned s since 0 part (fed s part)
 fed_scanned s since part e = rw (fed_accepted s part e) (scanned s since 0 part)
 
 -- a feed that ends with a cut leaves a fresh scanner
@@ -43,19 +43,19 @@ cut_fresh s part t = by_test (accepted (scanner_ground s)) refl
     by_test false a = let e = fed_refused s part a in cc
 
 -- a part that is read comes from an accepted scanner
-fed_ground : (s : Scanner) (part : List ℕ) → (fed s part).refusal ≡ Accepted → scanner_ground s ≡ Accepted
+fed_ground : (s : Scanner) (part : List ℕ) → (fed s part).refusal ≡ None → scanner_ground s ≡ None
 unfolding fed
 fed_ground s part e = by_test (accepted (scanner_ground s)) refl e
   where
     by_test : (x : Bool) → accepted (scanner_ground s) ≡ x
         → (cond x (scan s 0 part) (unmoved (scanner_ground s) s)).refusal
-        ≡ Accepted
-        → scanner_ground s ≡ Accepted
+        ≡ None
+        → scanner_ground s ≡ None
     by_test true a e = no_ground _ a
     by_test false a e = e
 
 -- a feed that is accepted and not empty consumes at least a byte
-pub feed_consumes : (s : Scanner) (part : List ℕ) → (fed s part).refusal ≡ Accepted → 1 ≤ length part
+pub feed_consumes : (s : Scanner) (part : List ℕ) → (fed s part).refusal ≡ None → 1 ≤ length part
     → 1 ≤ (fed s part).consumed
 feed_consumes s part e some = by_scan (fed s part) (fed_scanned s [] part (fed_ground s part e))
   where

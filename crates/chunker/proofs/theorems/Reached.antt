@@ -5,7 +5,6 @@ use native.Mathlib.Nat.{zero-add, add-zero, add-suc}
 use mathlib.Core.Path.{◌≡◌, refl, ap}
 use mathlib.Core.List.{List, [], ◌∷◌, ◌++◌, append_assoc, append-nil}
 use lib.ListN.{length, length-append}
-use Rattle.refusal.specs.declared.Refusal.TheVariants.{Accepted}
 use Rattle.scan.specs.declared.Scanner.{Scanner}
 use Rattle.scan.specs.Scanner.{fresh}
 use Rattle.chunker.specs.Scanner.{scanner_ground}
@@ -17,6 +16,7 @@ use Rattle.chunker.specs.Bytes.{Bytes}
 use Rattle.scan.specs.internal.Sound.{Sound}
 use Rattle.chunker.proofs.laws.ground.Soundness.{bytes_append, ground_sound, sound_ground, window_allowed_lem, opened_fresh, fed_accepted}
 use Rattle.scan.proofs.laws.Soundness.{fresh_sound}
+use Rattle.std.specs.Prelude.{None}
 
 -- a part after which a fresh scanner is s, with no cut on the way
 record Reaching (w : ℕ) (s : Scanner) : Type 0 where
@@ -104,7 +104,7 @@ by_count s (suc n) c h =
     rw e at (all_held s.window (s.count - s.place) s.place s.place s.value (omega arith) (omega arith) r)
 
 -- every accepted scanner is what feeding some part to a fresh one leaves, with no cut
-pub reached : (s : Scanner) → s.value < 256 → scanner_ground s ≡ Accepted
+pub reached : (s : Scanner) → s.value < 256 → scanner_ground s ≡ None
     → (part : List ℕ) × Bytes part × (fed (opened s.window).scanner part ≡ uncut s (length part))
 unfolding scan
 reached s k e =

@@ -11,16 +11,16 @@ use Rattle.rebuild.proofs.laws.Parts.{Left, all_left, part_over, none_left}
 use Rattle.rebuild.proofs.laws.Recipes.{Counted, none_counted, one_counted, all_counted, one_rebuilt, none_rebuilt}
 
 -- the chunks of the numbers before place i are written, and those of the others are to follow from `at` on
-pub record Underway (pool directory recipe before now : List ℕ) (at i : ℕ) : Type 0 where
+pub record Underway (pool directory recipe now : List ℕ) (at i : ℕ) : Type 0 where
   pub counted : Counted pool directory recipe i at
-  pub left : Left before (rebuilt_bytes pool directory recipe) now at (rebuilt_bytes pool directory (drop i recipe))
+  pub left : Left (rebuilt_bytes pool directory recipe) now at (rebuilt_bytes pool directory (drop i recipe))
 
 -- no chunk is written yet
-pub none_written : {pool directory recipe output : List ℕ} → length (rebuilt_bytes pool directory recipe) ≤ length output
-    → Underway pool directory recipe output output 0 0
+pub none_written : {pool directory recipe output : List ℕ} → length output ≡ length (rebuilt_bytes pool directory recipe)
+    → Underway pool directory recipe output 0 0
 none_written h = record { counted = none_counted; left = all_left h }
 
-module _ {pool directory recipe before now : List ℕ} {at i : ℕ} (u : Underway pool directory recipe before now at i) where
+module _ {pool directory recipe now : List ℕ} {at i : ℕ} (u : Underway pool directory recipe now at i) where
   module _ (h : i < length recipe) (chunk : List ℕ) (e : chunk ≡ chunk_at pool directory (get_or recipe i 0)) where
     -- the next chunk, then the others
     next : rebuilt_bytes pool directory (drop i recipe) ≡ chunk ++ rebuilt_bytes pool directory (drop (i + 1) recipe)
@@ -32,27 +32,24 @@ module _ {pool directory recipe before now : List ℕ} {at i : ℕ} (u : Underwa
     lengths = ap length next ∙ length-append chunk (rebuilt_bytes pool directory (drop (i + 1) recipe))
 
     -- it ends within the job
-    pub next_fits : at + length chunk ≤ length (rebuilt_bytes pool directory recipe)
-    next_fits = omega (arith, lengths, u.counted.gives)
+    pub next_fits : at + length chunk ≤ length now
+    next_fits = omega (arith, lengths, u.left.room)
 
-    -- once it is written, with any bytes after it up to the job's end, the others are left
-    pub one_written : (now' : List ℕ) → Covered now at (length (rebuilt_bytes pool directory recipe)) chunk now'
-        → Underway pool directory recipe before now' (at + length chunk) (i + 1)
+    -- once it is written, with any bytes after it, the others are left
+    pub one_written : (now' : List ℕ) → Covered now at (length now) chunk now'
+        → Underway pool directory recipe now' (at + length chunk) (i + 1)
     one_written now' w =
         let rest = rebuilt_bytes pool directory (drop (i + 1) recipe) in
         let few : length chunk ≤ length w.bytes =
         omega (arith, ap length w.begins, length-take (length chunk) w.bytes) in
-        let left : Left before (rebuilt_bytes pool directory recipe) now at (take (length chunk) w.bytes ++ rest) =
+        let left : Left (rebuilt_bytes pool directory recipe) now at (take (length chunk) w.bytes ++ rest) =
         rw (w.begins, ← next) u.left in
         record {
           counted = one_counted u.counted (length chunk) h (ap length e);
           left = rw w.gives
-              (part_over w.bytes rest (length chunk) few (omega (arith, lengths, u.counted.gives, w.within)) left);
+              (part_over w.bytes rest (length chunk) few (omega (arith, lengths, u.counted.gives, u.left.same_length, w.within)) left);
         }
 
   -- with no number left all are written
-  pub all_written : length recipe ≤ i
-      → (at ≡ length (rebuilt_bytes pool directory recipe)) × (now ≡ rebuilt_bytes pool directory recipe ++ drop at before)
-  all_written h =
-      let size = all_counted u.counted h in
-      (size, rw size (none_left (rw (none_rebuilt pool directory recipe i h) at u.left)))
+  pub all_written : length recipe ≤ i → now ≡ rebuilt_bytes pool directory recipe
+  all_written h = none_left (rw (none_rebuilt pool directory recipe i h) at u.left)

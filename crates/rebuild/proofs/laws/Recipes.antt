@@ -1,7 +1,6 @@
 -- Laws of a recipe's chunks and numbers, one number at a time.
 use Prim.Native.Nat.{ℕ, zero, suc, ◌+◌, ◌*◌, ◌≤◌, ◌<◌}
 use native.Mathlib.Omega.{arith}
-use native.Mathlib.Nat.{mul-le-mul_right}
 use native.Mathlib.Numerals.{add-one}
 use mathlib.Core.Path.{◌≡◌, sym, ap, ◌∙◌}
 use mathlib.Core.Bool.{Bool, true, false, ◌&&◌, and-true, and-false, and-eq-true_iff}
@@ -14,7 +13,6 @@ use Rattle.directory.specs.Entry.{offset_at, length_at}
 use Rattle.store.specs.Memory.{chunk_at}
 use Rattle.rebuild.specs.Rebuilding.{rebuilt_bytes}
 use Rattle.store.specs.Grounds.{all_below}
-use Rattle.store.specs.Limits.{pool_limit, recipe_limit}
 
 -- `below` tells whether the numbers before place i passed, those from it on are still to test, and the answer is both
 pub record Compared (chunks : ℕ) (recipe : List ℕ) (below : Bool) (i : ℕ) : Type 0 where
@@ -85,12 +83,6 @@ module _ {pool directory recipe : List ℕ} {i total : ℕ} (t : Counted pool di
       let both : length (rebuilt_bytes pool directory (drop i recipe)) ≡ length chunk + length rest =
       ap length (one_rebuilt pool directory recipe i h) ∙ length-append chunk rest in
       record { order = omega arith; small = omega arith; gives = omega arith }
-
-  -- the total of memory within the limits is small
-  pub counted_small : length pool ≤ pool_limit → length recipe ≤ recipe_limit → total ≤ recipe_limit * pool_limit
-  counted_small p r =
-      let few : i ≤ recipe_limit = omega arith in
-      omega (arith, mul-le-mul_right (length pool) few)
 
   -- all are counted
   pub all_counted : length recipe ≤ i → total ≡ length (rebuilt_bytes pool directory recipe)

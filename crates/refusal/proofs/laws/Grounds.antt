@@ -2,17 +2,18 @@
 use mathlib.Core.Path.{◌≡◌, refl, sym, ◌∙◌}
 use mathlib.Core.Bool.{Bool, true, false, cond, false≢true}
 use mathlib.Core.List.{List, [], ◌∷◌, ◌++◌}
+use Rattle.std.specs.Prelude.{Option}
 use Rattle.refusal.specs.declared.Refusal.{Refusal}
 use Rattle.refusal.specs.Number.{accepted}
 use Rattle.refusal.specs.Grounds.{unless, first}
 
 -- none of the grounds holds
-abbrev pub NoneHolds : List Refusal → Type 0
+abbrev pub NoneHolds : List (Option Refusal) → Type 0
 NoneHolds [] = Unit {0}
 NoneHolds (ground ∷ grounds) = (accepted ground ≡ true) × NoneHolds grounds
 
 -- it is so where the first that holds is none
-pub none_holds : (grounds : List Refusal) → accepted (first grounds) ≡ true → NoneHolds grounds
+pub none_holds : (grounds : List (Option Refusal)) → accepted (first grounds) ≡ true → NoneHolds grounds
 none_holds [] h = tt
 none_holds (ground ∷ grounds) h = by_test (accepted ground) refl (none_holds grounds) h
   where
@@ -22,7 +23,7 @@ none_holds (ground ∷ grounds) h = by_test (accepted ground) refl (none_holds g
     by_test false e later k = absurd (false≢true (sym e ∙ k))
 
 -- the first of two lists of grounds, one after the other
-pub first_append : (xs ys : List Refusal) → first (xs ++ ys) ≡ cond (accepted (first xs)) (first ys) (first xs)
+pub first_append : (xs ys : List (Option Refusal)) → first (xs ++ ys) ≡ cond (accepted (first xs)) (first ys) (first xs)
 first_append [] ys = refl
 first_append (x ∷ xs) ys = rw (first_append xs ys) (by_test (accepted x) refl)
   where
@@ -32,6 +33,6 @@ first_append (x ∷ xs) ys = rw (first_append xs ys) (by_test (accepted x) refl)
     by_test false e = rw e
 
 -- a ground that does not hold has passed its test
-pub passed : (t : Bool) (ground : Refusal) → accepted ground ≡ false → accepted (unless t ground) ≡ true → t ≡ true
-passed true ground g h = refl
-passed false ground g h = absurd (false≢true (sym g ∙ h))
+pub passed : (t : Bool) (ground : Refusal) → accepted (unless t ground) ≡ true → t ≡ true
+passed true ground h = refl
+passed false ground h = absurd (false≢true h)

@@ -1,6 +1,6 @@
 -- The stretch of the pool that a number's entry gives.
 use Prim.Native.Nat.{ℕ, ◌+◌, ◌*◌, ◌<◌}
-use mathlib.Core.Path.{◌≡◌, refl}
+use mathlib.Core.Path.{◌≡◌}
 use mathlib.Core.Bool.{true, and-eq-true_iff}
 use mathlib.Core.List.{List, [], ◌∷◌}
 use lib.ListN.{length}
@@ -28,8 +28,8 @@ look_placed head pool directory number h =
     ∷ number_ground head (number.0 ∷ [])
     ∷ [])
     h in
-    let fitting = passed (fits head pool directory) HeadMisfit refl none.1.1.0 in
-    let below = (and-eq-true_iff _ _).0 (passed (all_below head.chunks.0 (number.0 ∷ [])) NoChunk refl none.1.1.1.0) in
+    let fitting = passed (fits head pool directory) HeadMisfit none.1.1.0 in
+    let below = (and-eq-true_iff _ _).0 (passed (all_below head.chunks.0 (number.0 ∷ [])) NoChunk none.1.1.1.0) in
     fits_entry head pool directory fitting number.0 (ltb-true _ _ below.0)
 
 -- an entry that the directory has

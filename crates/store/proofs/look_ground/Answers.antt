@@ -1,35 +1,16 @@
 -- `store::look_ground` meets its contract.
-use mathlib.Core.Path.{sym, ◌∙◌}
-use borrow.Author.Tests.{not-true, not-false, lt-ltb, le-ltb}
-use Rattle.store.specs.Grounds.{all_below}
-use Rattle.store.proofs.laws.grounds.Passed.{look_ground_lem}
+use mathlib.Core.Path.{◌≡◌, ◌∙◌}
+use Rattle.std.proofs.Common.{rules}
+use Rattle.std.specs.Prelude.{Some}
+use Rattle.std.specs.Result.{result_err}
+use Rattle.refusal.proofs.laws.Tested.{fails, passes}
+use Rattle.store.proofs.laws.grounds.Passed.{look_fails, look_passes}
 use Rattle.store.proofs.look_ground.Goals as goal
 
-pub returns-then-not-accepted : goal.returns-then-not-accepted
-returns-then-not-accepted c =
-    let ground = c.store_ground-ground.ensures in
-    rw (look_ground_lem, ← ground, sym c.accepted.ensures ∙ not-true _ c.if-not-accepted.true-raw)
-
-pub returns-then-number-chunks : goal.returns-then-number-chunks
-unfolding all_below
-returns-then-number-chunks c =
-    let o = c in
-    let ground = o.store_ground-ground.ensures in
-    rw (
-      look_ground_lem,
-      ← ground,
-      sym o.accepted.ensures ∙ not-false _ o.if-not-accepted.false-raw,
-      lt-ltb _ _ c.if-number-chunks.true,
-    )
+pub returns-in_err-store_ground : goal.returns-in_err-store_ground
+returns-in_err-store_ground c =
+    let told : result_err c.from_residual.result ≡ Some c.in_err-store_ground.field-0.0 = search rules in
+    told ∙ look_fails _ _ _ _ (fails c.store_ground.ensures c.in_err-store_ground.was)
 
 pub returns : goal.returns
-unfolding all_below
-returns c =
-    let o = c in
-    let ground = o.store_ground-ground.ensures in
-    rw (
-      look_ground_lem,
-      ← ground,
-      sym o.accepted.ensures ∙ not-false _ o.if-not-accepted.false-raw,
-      le-ltb _ _ c.if-number-chunks.false,
-    )
+returns c = search (rules, passes, look_passes)

@@ -1,6 +1,6 @@
 -- The grounds that a quote or a take tests before the job's first chunk, test by test.
 use Prim.Native.Nat.{ℕ}
-use mathlib.Core.Path.{◌≡◌, refl}
+use mathlib.Core.Path.{◌≡◌}
 use mathlib.Core.Bool.{true, cond}
 use mathlib.Core.List.{List, [], ◌∷◌}
 use Rattle.refusal.specs.Number.{accepted}
@@ -41,13 +41,13 @@ module _ (head : Head) (pool directory index recipe job : List ℕ) where
       ∷ [])
       h in
       record {
-        window = passed (window_allowed head.window) Window refl none.0;
-        job_length = passed (job_allowed job) JobLength refl none.1.0;
-        recipe_memory = passed (recipe_allowed recipe) MemoryLimit refl none.1.1.0;
-        store_memory = passed (memory_allowed pool directory) MemoryLimit refl none.1.1.1.0;
-        fitting = passed (fits head pool directory) HeadMisfit refl none.1.1.1.1.0;
-        index_length = passed (length_allowed directory index) IndexLength refl none.1.1.1.1.1.0;
-        indexed = passed (meets index (contents pool directory head.chunks.0)) Index refl none.1.1.1.1.1.1.0;
+        window = passed (window_allowed head.window) Window none.0;
+        job_length = passed (job_allowed job) JobLength none.1.0;
+        recipe_memory = passed (recipe_allowed recipe) MemoryLimit none.1.1.0;
+        store_memory = passed (memory_allowed pool directory) MemoryLimit none.1.1.1.0;
+        fitting = passed (fits head pool directory) HeadMisfit none.1.1.1.1.0;
+        index_length = passed (length_allowed directory index) IndexLength none.1.1.1.1.1.0;
+        indexed = passed (meets index (contents pool directory head.chunks.0)) Index none.1.1.1.1.1.1.0;
       }
 
   -- where none of 1, 3 and the recipe's part of 4 holds, a job is refused by the store's grounds, and then by the index's

@@ -1,16 +1,12 @@
--- `chunker::ground::untouched` meets its contract.
-use borrow.Author.Tests.{eq-eqb, ne_eqb}
+use Rattle.std.proofs.Common.{rules}
 use Rattle.chunker.specs.Scanner.{untouched}
 use Rattle.chunker.proofs.ground.untouched.Goals as goal
+use Rattle.chunker.proofs.ground.untouched.Goals.{then-scanner-eq0, else-scanner-eq0}
 
-pub returns-then-scanner-ne0 : goal.returns-then-scanner-ne0
+pub returns-then-scanner-eq0-2 : goal.returns-then-scanner-eq0-2
 unfolding untouched
-returns-then-scanner-ne0 c = rw (ne_eqb _ _ c.if-scanner-ne0.true)
+returns-then-scanner-eq0-2 c = elim c.if-scanner-eq0.branch [ then-scanner-eq0 w ↦ search rules | else-scanner-eq0 w ↦ search rules ]
 
-pub returns-then-scanner-ne0-2 : goal.returns-then-scanner-ne0-2
+pub returns-else-scanner-eq0-2 : goal.returns-else-scanner-eq0-2
 unfolding untouched
-returns-then-scanner-ne0-2 c = rw (eq-eqb _ _ c.if-scanner-ne0.false, ne_eqb _ _ c.if-scanner-ne0-2.true)
-
-pub returns : goal.returns
-unfolding untouched
-returns c = rw (eq-eqb _ _ c.if-scanner-ne0.false, eq-eqb _ _ c.if-scanner-ne0-2.false)
+returns-else-scanner-eq0-2 c = elim c.if-scanner-eq0.branch [ then-scanner-eq0 w ↦ search rules | else-scanner-eq0 w ↦ search rules ]

@@ -1,13 +1,13 @@
 -- What the tests of a scanner's soundness say, as facts, and that feeding bytes keeps them.
 use Prim.Native.Nat.{ℕ, zero, suc, ◌+◌, ◌*◌, ◌≤◌, ◌<◌}
 use native.Mathlib.Omega.{arith}
-use mathlib.Core.Path.{◌≡◌, refl, ◌∙◌, ap}
+use mathlib.Core.Path.{◌≡◌, refl, sym, ◌∙◌, ap}
 use mathlib.Core.Bool.{Bool, true, false, ◌||◌, and-eq-true_iff}
 use mathlib.Core.List.{List, [], ◌∷◌, ◌++◌}
 use lib.Dec.{leb}
-use lib.ListN.{get_or, drop}
+use lib.ListN.{get_or, length, drop}
 use borrow.Author.Tests.{leb-true, ltb-true, eqb-true, le-leb, lt-ltb, eq-eqb, ne_eqb}
-use Rattle.refusal.specs.declared.Refusal.TheVariants.{Accepted, Window, Unsound}
+use Rattle.refusal.specs.declared.Refusal.TheVariants.{Window, Unsound}
 use Rattle.refusal.specs.Number.{accepted}
 use Rattle.scan.specs.declared.Scanner.{Scanner}
 use Rattle.scan.specs.declared.Fed.{Fed}
@@ -20,10 +20,12 @@ use Rattle.chunker.specs.Bytes.{Bytes}
 use Rattle.chunker.specs.Chunks.{after}
 use Rattle.scan.specs.Limits.{window_limit}
 use Rattle.scan.proofs.laws.Soundness.{fresh_sound, next_sound}
+use Rattle.scan.proofs.laws.run.Scanning.{stays}
 use Rattle.refusal.proofs.laws.Grounds.{none_holds, passed}
 use Rattle.refusal.proofs.laws.NoGround.{no_ground}
 use Rattle.scan.specs.internal.Sound.{Sound}
 use Rattle.refusal.specs.Grounds.{unless}
+use Rattle.std.specs.Prelude.{None, Some}
 
 -- what the test of a window says
 pub window_bounds : (w : ℕ) → window_allowed w ≡ true → (1 ≤ w) × (w ≤ window_limit)
@@ -38,12 +40,12 @@ module _ (s : Scanner) (byte : s.value < 256) (low : 1 ≤ s.window) (high : s.w
   by_tests false y p q e = let k = simp and-eq-true_iff at (q ∙ e) in omega (arith, leb-true, ltb-true)
 
 -- an accepted scanner is sound
-pub ground_sound : (s : Scanner) → s.value < 256 → scanner_ground s ≡ Accepted → Sound s
+pub ground_sound : (s : Scanner) → s.value < 256 → scanner_ground s ≡ None → Sound s
 unfolding scanner_ground sound
 ground_sound s h e =
     let none = none_holds (window_ground s.window ∷ unless (sound s) Unsound ∷ []) (ap accepted e) in
-    let b = window_bounds s.window (passed (window_allowed s.window) Window refl none.0) in
-    by_tests s h b.0 b.1 _ _ refl refl (passed (sound s) Unsound refl none.1.0)
+    let b = window_bounds s.window (passed (window_allowed s.window) Window none.0) in
+    by_tests s h b.0 b.1 _ _ refl refl (passed (sound s) Unsound none.1.0)
 
 -- a scanner with no byte since the last cut is untouched, any other consistent
 by_count : (s : Scanner) (n : ℕ) → s.count ≡ n → Sound s → sound s ≡ true
@@ -65,7 +67,7 @@ unfolding window_allowed
 window_allowed_lem w low high = rw (le-leb 1 w low, le-leb w window_limit high)
 
 -- a sound scanner is accepted
-pub sound_ground : (s : Scanner) → Sound s → scanner_ground s ≡ Accepted
+pub sound_ground : (s : Scanner) → Sound s → scanner_ground s ≡ None
 unfolding scanner_ground
 sound_ground s h = rw (window_allowed_lem s.window h.low h.high, by_count s _ refl h)
 
@@ -108,7 +110,7 @@ scan_sound s n (b ∷ bs) k h =
     (scan_sound (next s b) (suc n) bs k.1 (next_sound s b k.0 h))
 
 -- an accepted scanner reads the part
-pub fed_accepted : (s : Scanner) (part : List ℕ) → scanner_ground s ≡ Accepted → fed s part ≡ scan s 0 part
+pub fed_accepted : (s : Scanner) (part : List ℕ) → scanner_ground s ≡ None → fed s part ≡ scan s 0 part
 unfolding fed
 fed_accepted s part e = rw e
 
@@ -119,13 +121,13 @@ unfolding fed
 fed_refused s part e = rw e
 
 -- reading a part finds no ground
-scan_accepted : (s : Scanner) (n : ℕ) (xs : List ℕ) → (scan s n xs).refusal ≡ Accepted
+scan_accepted : (s : Scanner) (n : ℕ) (xs : List ℕ) → (scan s n xs).refusal ≡ None
 unfolding scan
 scan_accepted s n [] = refl
 scan_accepted s n (b ∷ bs) = by_move (move s b) _ _ refl (scan_accepted (next s b) (suc n) bs)
   where
-    by_move : (m : Move) (x y : Fed) → x.refusal ≡ Accepted → y.refusal ≡ Accepted
-        → (stop_at_cut m x y).refusal ≡ Accepted
+    by_move : (m : Move) (x y : Fed) → x.refusal ≡ None → y.refusal ≡ None
+        → (stop_at_cut m x y).refusal ≡ None
     by_move Rise x y h k = k
     by_move Hold x y h k = k
     by_move Cut x y h k = h
@@ -145,7 +147,7 @@ unfolding opened
 opened_fresh w e = rw e
 
 -- a fresh scanner is accepted where its window is allowed
-pub fresh_ground : (w : ℕ) → window_allowed w ≡ true → scanner_ground (fresh w) ≡ Accepted
+pub fresh_ground : (w : ℕ) → window_allowed w ≡ true → scanner_ground (fresh w) ≡ None
 fresh_ground w e = let k = window_bounds w e in sound_ground (fresh w) (fresh_sound w k.0 k.1)
 
 -- and else refused
@@ -155,6 +157,11 @@ fresh_refused w e = rw e
 
 -- .. by ground 1
 pub fed_window : (w : ℕ) (part : List ℕ) → window_allowed w ≡ false
-    → fed (fresh w) part ≡ unmoved Window (fresh w)
+    → fed (fresh w) part ≡ unmoved (Some Window) (fresh w)
 unfolding fed scanner_ground
 fed_window w part e = rw e
+
+-- .. and passes no byte of an empty part
+pub fed_nothing : (w : ℕ) (part : List ℕ) → window_allowed w ≡ true → length part ≡ 0
+    → fed (fresh w) part ≡ unmoved None (fresh w)
+fed_nothing w part e h = rw (fed_accepted (fresh w) part (fresh_ground w e)) (sym (stays (fresh w) 0 part h))

@@ -1,11 +1,6 @@
 -- `rebuild::grounds::all_below` meets its contract: each turn tests one number.
-use Prim.Native.Nat.{◌-◌}
-use lib.ListN.{length}
 use Rattle.rebuild.proofs.laws.Recipes.{Compared}
 use Rattle.rebuild.proofs.grounds.all_below.Given as goal
 
-abbrev pub invariant-loop-i : goal.invariant-loop-i
-invariant-loop-i l = Compared l.count l.recipe l.below l.i
-
-abbrev pub decreases-loop-i : goal.decreases-loop-i
-decreases-loop-i l = length l.recipe - l.i
+abbrev pub invariant-loop-number : goal.invariant-loop-number
+invariant-loop-number l = Compared l.chunks.0 l.recipe l.below l.number-index

@@ -1,16 +1,15 @@
 -- The grounds of a rebuilding, test by test.
 use Prim.Native.Nat.{ℕ, ◌≤◌, ◌<◌}
 use native.Mathlib.Omega.{arith}
-use mathlib.Core.Path.{◌≡◌, refl}
-use mathlib.Core.Bool.{true, false, cond, and-eq-true_iff}
+use mathlib.Core.Path.{◌≡◌}
+use mathlib.Core.Bool.{true, cond, and-eq-true_iff}
 use mathlib.Core.List.{List, [], ◌∷◌}
 use borrow.Author.Tests.{leb-true, le-leb}
 use lib.Dec.{leb}
 use lib.ListN.{length, get_or}
 use Rattle.refusal.specs.Number.{accepted}
 use Rattle.refusal.specs.Grounds.{first}
-use Rattle.refusal.specs.declared.Refusal.{Refusal}
-use Rattle.refusal.specs.declared.Refusal.TheVariants.{Accepted, Head as HeadMisfit, ChunkNumber as NoChunk, OutputShort}
+use Rattle.refusal.specs.declared.Refusal.TheVariants.{Head as HeadMisfit, ChunkNumber as NoChunk, OutputShort}
 use Rattle.refusal.proofs.laws.Grounds.{none_holds, passed, first_append}
 use Rattle.chunker.specs.Scanner.{window_allowed, window_ground}
 use Rattle.store.specs.declared.Head.{Head}
@@ -21,10 +20,7 @@ use Rattle.store.proofs.laws.grounds.Passed.{store_passed}
 use Rattle.rebuild.specs.Rebuilding.{rebuilt_bytes, output_ground, rebuild_ground}
 use Rattle.rebuild.specs.internal.Located.{Located}
 use Rattle.rebuild.proofs.laws.Recipes.{each_below}
-
--- a ground that holds is not accepted, so nothing need be said of a length
-pub no_length : {r s : Refusal} {a b : ℕ} → r ≡ s → accepted s ≡ false → accepted r ≡ true → a ≡ b
-no_length e f t = cc
+use Rattle.std.specs.Prelude.{None}
 
 -- the pool of an accepted store is within its limit
 pub pool_small : (head : Head) (pool directory : List ℕ) → accepted (store_ground head pool directory) ≡ true
@@ -78,9 +74,9 @@ module _ (head : Head) (pool directory recipe output : List ℕ) where
         ∷ output_ground pool directory recipe output
         ∷ [])
         e).1.1.1 in (
-          passed (fits head pool directory) HeadMisfit refl none.0,
-          passed (all_below head.chunks.0 recipe) NoChunk refl none.1.0,
-          passed (leb (length (rebuilt_bytes pool directory recipe)) (length output)) OutputShort refl none.1.1.0,
+          passed (fits head pool directory) HeadMisfit none.0,
+          passed (all_below head.chunks.0 recipe) NoChunk none.1.0,
+          passed (leb (length (rebuilt_bytes pool directory recipe)) (length output)) OutputShort none.1.1.0,
         )
 
     -- an accepted rebuilding finds its numbers
@@ -95,6 +91,6 @@ module _ (head : Head) (pool directory recipe output : List ℕ) where
   pub all_pass : window_allowed head.window ≡ true → memory_allowed pool directory ≡ true → recipe_allowed recipe ≡ true
       → fits head pool directory ≡ true → all_below head.chunks.0 recipe ≡ true
       → length (rebuilt_bytes pool directory recipe) ≤ length output
-      → rebuild_ground head pool directory recipe output ≡ Accepted
+      → rebuild_ground head pool directory recipe output ≡ None
   unfolding rebuild_ground
   all_pass w s r f n o = rw (w, s, r, f, n, le-leb _ _ o)

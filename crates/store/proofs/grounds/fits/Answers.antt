@@ -1,25 +1,15 @@
 -- `store::grounds::fits` meets its contract.
-use borrow.Author.Tests.{le-leb, lt-leb}
+use Rattle.std.proofs.Common.{rules}
 use Rattle.store.specs.Grounds.{fits}
 use Rattle.store.proofs.grounds.fits.Goals as goal
+use Rattle.store.proofs.grounds.fits.Goals.{then-count-entries, else-count-entries}
 
-pub returns-then-entries-count : goal.returns-then-entries-count
+pub returns-then-filled-pool : goal.returns-then-filled-pool
 unfolding fits
-returns-then-entries-count c = rw (← c.entries.ensures, lt-leb _ _ c.if-entries-count.true)
+returns-then-filled-pool c =
+    elim c.if-count-entries.branch [ then-count-entries w ↦ search rules | else-count-entries w ↦ search rules ]
 
-pub returns-then-pool-end : goal.returns-then-pool-end
+pub returns-else-filled-pool : goal.returns-else-filled-pool
 unfolding fits
-returns-then-pool-end c =
-    let counted = c in
-    rw (← counted.entries.ensures, le-leb _ _ counted.if-entries-count.false, lt-leb _ _ c.if-pool-end.true)
-
-pub returns : goal.returns
-unfolding fits
-returns c =
-    let counted = c in
-    rw (
-      ← counted.entries.ensures,
-      le-leb _ _ counted.if-entries-count.false,
-      le-leb _ _ c.if-pool-end.false,
-      c.laid_out.ensures,
-    )
+returns-else-filled-pool c =
+    elim c.if-count-entries.branch [ then-count-entries w ↦ search rules | else-count-entries w ↦ search rules ]
