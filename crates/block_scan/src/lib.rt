@@ -2,20 +2,19 @@
 // the chunker.
 #![tactic(auto)]
 
-ghost use Rattle.std.specs.Prelude.{◌≡◌, length, min, ◌≤◌, ◌<◌};
+ghost use Rattle.std.specs.Prelude.{◌≡◌, MatchOption, length, ◌≤◌, ◌<◌};
 ghost use Rattle.scan.specs.Limits.{window_limit};
 ghost use Rattle.scan.specs.Scanner.{fresh};
 ghost use Rattle.scan.specs.Scan.{scan, first_chunk};
 ghost use Rattle.scan.specs.internal.Sound.{Sound};
-ghost use Rattle.scan.specs.internal.Run.{Going, rest};
-ghost use Rattle.block_scan.specs.internal.Advance.{Advanced, Ended};
-ghost use Rattle.block_scan.specs.internal.Peaks.{AtLargest, at_peak};
+ghost use Rattle.scan.specs.internal.Run.{rest};
+ghost use Rattle.block_scan.specs.internal.Advance.{CutAtDeadline, Advanced, Ended};
+ghost use Rattle.block_scan.specs.internal.Peaks.{Settled, AtLargest, AtPeak};
 
 mod windows;
 
-use refusal::Refusal;
 use scan::run::Run;
-use scan::{Fed, FirstChunk, Scanner, run};
+use scan::{Fed, FirstChunk, Scanner};
 
 // The smallest window that is scanned by blocks.
 const SMALLEST: usize = 8;
@@ -26,23 +25,16 @@ pub fn scan(scanner: Scanner, part: &[u8]) -> Fed
     ensures { result ≡ scan scanner 0 part.now }
 {
     if part.len() == 0 {
-        return Fed {
-            refusal: Refusal::Accepted,
-            scanner,
-            consumed: 0,
-            cut: false,
-            place: 0,
-            value: 0,
-        };
+        return Fed::uncut(scanner, 0);
     }
-    let run = run::begun(scanner, part);
+    let run = Run::begun(scanner, part);
     if run.window < SMALLEST {
-        return run::by_bytes(run::pass_one(run, part), part);
+        return run.pass_one().by_bytes();
     }
     if scanner.count == 0 {
-        return by_windows(run, part);
+        return by_windows(run);
     }
-    from_middle(run, part)
+    from_middle(run)
 }
 
 // Moves a fresh scanner on over a part that is not empty.
@@ -52,11 +44,11 @@ pub fn from_start(window: u32, part: &[u8]) -> Fed
     requires in_bounds { 1 ≤ length part.now }
     ensures { result ≡ scan (fresh window) 0 part.now }
 {
-    let run = run::begun(scan::fresh(window), part);
+    let run = Run::begun(scan::fresh(window), part);
     if run.window < SMALLEST {
-        return run::by_bytes(run::pass_one(run, part), part);
+        return run.pass_one().by_bytes();
     }
-    by_windows(run, part)
+    by_windows(run)
 }
 
 // The first chunk of a job that is not empty. Where no cut ends it, its last bytes are not looked at.
@@ -66,9 +58,9 @@ pub fn first_chunk(window: u32, job: &[u8]) -> FirstChunk
     requires in_bounds { 1 ≤ length job.now }
     ensures { result ≡ first_chunk (scan (fresh window) 0 job.now) }
 {
-    let run = run::begun(scan::fresh(window), job);
+    let run = Run::begun(scan::fresh(window), job);
     if run.window < SMALLEST {
-        let answer = run::by_bytes(run::pass_one(run, job), job);
+        let answer = run.pass_one().by_bytes();
         return FirstChunk {
             length: answer.consumed,
             cut: answer.cut,
@@ -94,103 +86,114 @@ pub fn first_chunk(window: u32, job: &[u8]) -> FirstChunk
     }
 }
 
-// The smaller of two numbers.
-fn min(a: usize, b: usize) -> usize
-    ensures { result ≡ min a b }
-{
-    if a < b { a } else { b }
-}
-
 // Window by window, from a byte that is the largest so far.
-fn by_windows(run: Run, part: &[u8]) -> Fed
-    requires going { Going run part.now }
-    requires at_largest { AtLargest run part.now }
+fn by_windows(run: Run) -> Fed
+    requires at_largest { AtLargest run }
     requires le_window { 8 ≤ run.window }
-    ensures { result ≡ rest run part.now }
+    ensures { result ≡ rest run.entry }
 {
+    let part = run.part;
     let after = windows::settled(run.window, part, run.at, run.value);
     let deadline = after + run.window;
     if part.len() < deadline {
-        return run::passed(to_end(at_peak(run, part, after), part));
+        return to_end(at_peak(run, after)).passed();
     }
-    run::cut(Run {
+    let run = Run {
+        part,
         window: run.window,
         base: run.base,
         deadline,
         value: part[after - 1],
         at: after,
-    })
+    };
+    run.cut()
 }
 
 // The run where it has settled, past its largest byte so far. Where it stayed, the byte is not read again.
-fn at_peak(run: Run, part: &[u8], after: usize) -> Run
-    requires window_le_window_limit { run.window ≤ window_limit }
-    requires at_largest { AtLargest run part.now }
-    requires at_le_after { run.at ≤ after }
-    requires after_in_bounds { after ≤ length part.now }
-    ensures { result ≡ at_peak run part.now after }
+fn at_peak(run: Run, after: usize) -> Run
+    requires at_largest { AtLargest run }
+    requires settled { Settled run.part.now run.window run.at run.value after }
+    ensures { AtPeak run.entry result after }
 {
-    let mut value = run.value;
-    if run.at < after {
-        value = part[after - 1];
+    if run.at == after {
+        return run;
     }
     Run {
+        part: run.part,
         window: run.window,
         base: run.base,
         deadline: after + run.window,
-        value,
+        value: run.part[after - 1],
         at: after,
     }
 }
 
 // From the middle of a window: first byte by byte, up to one that is larger.
-fn from_middle(run: Run, part: &[u8]) -> Fed
-    requires going { Going run part.now }
-    requires le_window { 8 ≤ run.window }
-    ensures { result ≡ rest run part.now }
+fn from_middle(run: Run) -> Fed
+    requires { 8 ≤ run.window }
+    ensures { result ≡ rest run.entry }
 {
-    let run = to_larger(run, part);
-    if run.at == run.deadline {
-        return run::cut(run);
+    let Some(next) = to_larger(run) else {
+        return run.cut();
+    };
+    if next.at == next.part.len() {
+        return next.passed();
     }
-    if run.at == part.len() {
-        return run::passed(run);
-    }
-    by_windows(run, part)
+    by_windows(next)
 }
 
-// Passes bytes up to and including one that is larger than the value, or to the deadline or the part's end.
-fn to_larger(run: Run, part: &[u8]) -> Run
-    requires { Going run part.now }
-    ensures { Advanced run result part.now }
+// Passes bytes up to and including one that is larger than the value, or to the part's end; nothing where the chunk ends
+// before.
+fn to_larger(run: Run) -> Option<Run>
+    ensures { MatchOption result (CutAtDeadline run.entry) (λ next. Advanced run.entry next) }
 {
-    let mut run = run;
-    let stop = min(run.deadline, part.len());
-    while run.at < stop {
-        let at = run.at;
+    let part = run.part;
+    let stop = run.deadline.min(part.len());
+    for at in run.at..stop {
         let byte = part[at];
-        run.at = at + 1;
         if byte > run.value {
-            run.value = byte;
-            run.deadline = at + 1 + run.window;
-            return run;
+            return Some(Run {
+                part,
+                window: run.window,
+                base: run.base,
+                deadline: at + 1 + run.window,
+                value: byte,
+                at: at + 1,
+            });
         }
     }
-    run
+    if stop == run.deadline {
+        return None;
+    }
+    Some(Run {
+        part,
+        window: run.window,
+        base: run.base,
+        deadline: run.deadline,
+        value: run.value,
+        at: stop,
+    })
 }
 
 // Passes the rest of a part that ends before the deadline: only the first of its largest bytes matters.
-fn to_end(run: Run, part: &[u8]) -> Run
-    requires going { Going run part.now }
-    requires part_len_bound { length part.now < run.deadline }
-    ensures { Ended run result part.now }
+fn to_end(run: Run) -> Run
+    requires { length run.part.now < run.deadline }
+    ensures { Ended run.entry result }
 {
-    let mut run = run;
+    let part = run.part;
+    let mut value = run.value;
+    let mut deadline = run.deadline;
     let most = blocks::largest_from(part, run.at);
-    if most > run.value {
-        run.value = most;
-        run.deadline = blocks::place_of(part, run.at, most) + 1 + run.window;
+    if most > value {
+        value = most;
+        deadline = blocks::place_of(part, run.at, most) + 1 + run.window;
     }
-    run.at = part.len();
-    run
+    Run {
+        part,
+        window: run.window,
+        base: run.base,
+        deadline,
+        value,
+        at: part.len(),
+    }
 }

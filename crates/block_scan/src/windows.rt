@@ -1,6 +1,6 @@
 // Steps of a whole window: of the w bytes after the largest so far, either none is larger, and the chunk ends with them, or
 // the first of their largest is the largest from then on. One unpredictable branch a step.
-ghost use Rattle.std.specs.Prelude.{◌≤◌, length};
+ghost use Rattle.std.specs.Prelude.{◌*◌, ◌≤◌, length};
 ghost use Rattle.scan.specs.Limits.{window_limit};
 ghost use Rattle.block_scan.specs.internal.Peaks.{Rising, Settled};
 
@@ -15,73 +15,31 @@ pub fn settled(window: usize, part: &[u8], after: usize, value: u8) -> usize
     ensures { Settled part.now window after value result }
 {
     if window <= 16 {
-        return settled_8(window, part, after, value);
+        return settled_by::<8>(window, part, after, value);
     }
     if window <= 32 {
-        return settled_16(window, part, after, value);
+        return settled_by::<16>(window, part, after, value);
     }
-    settled_32(window, part, after, value)
+    settled_by::<32>(window, part, after, value)
 }
 
-// Windows of 8 to 16 bytes, by blocks of 8.
-fn settled_8(window: usize, part: &[u8], after: usize, value: u8) -> usize
-    requires le_window { 8 ≤ window }
-    requires window_bound { window ≤ 16 }
+// Windows of N to 2N bytes, by blocks of N. The index goes on by what is found: it jumps to the first of the largest bytes.
+fn settled_by<const N: usize>(window: usize, part: &[u8], after: usize, value: u8) -> usize
+    requires nonzero { 1 ≤ N }
+    requires block_bound { N ≤ 32 }
+    requires le_window { N ≤ window }
+    requires window_bound { window ≤ 2 * N }
     requires after_in_bounds { after ≤ length part.now }
     ensures { Settled part.now window after value result }
 {
-    let shift = window - 8;
+    let shift = window - N;
     let mut peak = Peak { after, value };
     while peak.after + window <= part.len() {
         let at = peak.after;
-        if !blocks::any_larger_8(part, at, at + shift, peak.value) {
+        if !blocks::any_larger::<N>(part, at, at + shift, peak.value) {
             return at;
         }
-        peak = blocks::first_largest_8(part, at, at + shift, shift as u16);
-        if peak.after == at + window {
-            peak = while_larger(part, peak);
-        }
-    }
-    peak.after
-}
-
-// Windows of 16 to 32 bytes, by blocks of 16.
-fn settled_16(window: usize, part: &[u8], after: usize, value: u8) -> usize
-    requires le_window { 16 ≤ window }
-    requires window_bound { window ≤ 32 }
-    requires after_in_bounds { after ≤ length part.now }
-    ensures { Settled part.now window after value result }
-{
-    let shift = window - 16;
-    let mut peak = Peak { after, value };
-    while peak.after + window <= part.len() {
-        let at = peak.after;
-        if !blocks::any_larger_16(part, at, at + shift, peak.value) {
-            return at;
-        }
-        peak = blocks::first_largest_16(part, at, at + shift, shift as u16);
-        if peak.after == at + window {
-            peak = while_larger(part, peak);
-        }
-    }
-    peak.after
-}
-
-// Windows of 32 to 64 bytes, by blocks of 32.
-fn settled_32(window: usize, part: &[u8], after: usize, value: u8) -> usize
-    requires le_window { 32 ≤ window }
-    requires window_bound { window ≤ 64 }
-    requires after_in_bounds { after ≤ length part.now }
-    ensures { Settled part.now window after value result }
-{
-    let shift = window - 32;
-    let mut peak = Peak { after, value };
-    while peak.after + window <= part.len() {
-        let at = peak.after;
-        if !blocks::any_larger_32(part, at, at + shift, peak.value) {
-            return at;
-        }
-        peak = blocks::first_largest_32(part, at, at + shift, shift as u16);
+        peak = blocks::first_largest::<N>(part, at, at + shift, shift as u16);
         if peak.after == at + window {
             peak = while_larger(part, peak);
         }
@@ -95,8 +53,7 @@ fn while_larger(part: &[u8], peak: Peak) -> Peak
     ensures { Rising part.now peak.after peak.value result.after result.value }
 {
     let mut peak = peak;
-    while peak.after < part.len() {
-        let at = peak.after;
+    for at in peak.after..part.len() {
         let byte = part[at];
         if byte <= peak.value {
             return peak;

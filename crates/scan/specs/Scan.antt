@@ -1,6 +1,5 @@
 -- What a part does to a scanner that is not refused.
-use Rattle.std.specs.Prelude.{ℕ, suc, true, false, List, [], ◌∷◌}
-use Rattle.refusal.specs.declared.Refusal.TheVariants.{Accepted}
+use Rattle.std.specs.Prelude.{ℕ, suc, true, false, List, [], ◌∷◌, None}
 use Rattle.scan.specs.declared.Scanner.{Scanner}
 use Rattle.scan.specs.declared.Fed.{Fed}
 use Rattle.scan.specs.declared.FirstChunk.{FirstChunk}
@@ -9,13 +8,13 @@ use Rattle.scan.specs.Move.{Move, Rise, Hold, Cut, move, next}
 
 -- the answer to a part of which n bytes were consumed with no cut: "without a cut both are 0"
 abbrev pub uncut : Scanner → ℕ → Fed
-uncut s n = record { refusal = Accepted; scanner = s; consumed = n; cut = false; place = 0; value = 0 }
+uncut s n = record { refusal = None; scanner = s; consumed = n; cut = false; place = 0; value = 0 }
 
 -- the answer to a part of which n bytes were consumed up to a cut: "Each cut now reports the place and value of its maximum
 -- point"; "After a cut, count, place and value are 0"
 abbrev pub cut_after : ℕ → ℕ → ℕ → ℕ → Fed
 cut_after w n place value =
-    record { refusal = Accepted; scanner = fresh w; consumed = n; cut = true; place = place; value = value }
+    record { refusal = None; scanner = fresh w; consumed = n; cut = true; place = place; value = value }
 
 -- a part's bytes up to a cut, or all of them
 abbrev pub stop_at_cut : Move → Fed → Fed → Fed

@@ -1,2 +1,3 @@
 pub mod Sound
 pub mod Run
+pub mod Order

@@ -1,150 +1,155 @@
 // A scan under way over a part, byte by byte.
-ghost use Rattle.std.specs.Prelude.{◌≡◌, length, ◌+◌, ◌-◌, ◌^◌, ◌≤◌, ◌<◌};
-ghost use Rattle.scan.specs.Scan.{uncut, cut_after};
+ghost use Rattle.std.specs.Prelude.{◌≡◌, length, ◌+◌, ◌-◌, ◌≤◌, ◌<◌};
 ghost use Rattle.scan.specs.internal.Sound.{Sound};
-ghost use Rattle.scan.specs.internal.Run.{standing, Going, rest, Further, Begun};
+ghost use Rattle.scan.specs.internal.Order.{InOrder};
 
 use crate::{Fed, Scanner, fresh};
-use refusal::Refusal;
 
 // A scan under way over a part: `base` bytes of the open chunk came before the part, `at` bytes of
 // the part are passed, and the chunk ends after `deadline` of them unless a byte larger than
-// `value` comes.
+// `value` comes. Its numbers are in order at every step.
 #[derive(Clone, Copy)]
-pub struct Run {
+pub struct Run<'p> {
+    pub part: &'p [u8],
     pub window: usize,
     pub base: usize,
     pub deadline: usize,
     pub value: u8,
     pub at: usize,
+    pub ghost order: { InOrder part.now window base deadline value at },
 }
 
-// The start of a scan. The first byte of a chunk is its largest so far.
-pub fn begun(scanner: Scanner, part: &[u8]) -> Run
-    requires sound { Sound scanner }
-    requires in_bounds { 1 ≤ length part.now }
-    ensures { Begun scanner result part.now }
-{
-    let window = scanner.window as usize;
-    let count = scanner.count as usize;
-    if count != 0 {
-        let deadline = scanner.place as usize + window - count;
-        return Run {
-            window,
-            base: count,
-            deadline,
-            value: scanner.value,
-            at: 0,
-        };
-    }
-    Run {
-        window,
-        base: 0,
-        deadline: 1 + window,
-        value: part[0],
-        at: 1,
-    }
-}
+impl<'p> Run<'p> {
+    ghost use Rattle.scan.specs.internal.Run.{rest, uncut_at, cut_at, Further, Begun};
 
-// The part is passed, and no cut follows it.
-pub fn passed(run: Run) -> Fed
-    requires at_bound { run.base + run.at < 2 ^ 32 }
-    requires deadline_bound { run.base + run.deadline < 2 ^ 32 }
-    requires window_bound { run.window < run.base + run.deadline }
-    ensures { result ≡ uncut (standing run.window run.base run.deadline run.value run.at) run.at }
-{
-    let window = run.window;
-    let count = run.base + run.at;
-    let place = run.base + run.deadline - window;
-    Fed {
-        refusal: Refusal::Accepted,
-        scanner: Scanner {
-            window: window as u32,
-            count: count as u32,
-            place: place as u32,
-            value: run.value,
-        },
-        consumed: run.at,
-        cut: false,
-        place: 0,
-        value: 0,
-    }
-}
-
-// A cut follows the bytes up to the deadline. The maximum point is the largest byte so far.
-pub fn cut(run: Run) -> Fed
-    requires deadline_bound { run.base + run.deadline < 2 ^ 32 }
-    requires window_bound { run.window < run.base + run.deadline }
-    ensures { result ≡ cut_after run.window run.deadline (run.base + run.deadline - run.window) run.value }
-{
-    Fed {
-        refusal: Refusal::Accepted,
-        scanner: fresh(run.window as u32),
-        consumed: run.deadline,
-        cut: true,
-        place: (run.base + run.deadline - run.window) as u32,
-        value: run.value,
-    }
-}
-
-// Passes one byte, unless the chunk can end with it. Whether the second byte of a chunk is larger than the
-// first is unpredictable, so this form compiles to a select.
-pub fn pass_one(run: Run, part: &[u8]) -> Run
-    requires { Going run part.now }
-    ensures { Further run result part.now }
-{
-    let at = run.at;
-    let next = at + 1;
-    if part.len() <= at {
-        return run;
-    }
-    if run.deadline <= next {
-        return run;
-    }
-    let mut past = run;
-    past.at = next;
-    if part[at] > run.value {
-        past.value = part[at];
-        past.deadline = next + run.window;
-    }
-    past
-}
-
-// Byte by byte, up to the chunk's end or the part's: each byte is compared with the largest, and where it
-// is not larger, its index with that of the byte that ends the chunk.
-pub fn by_bytes(run: Run, part: &[u8]) -> Fed
-    requires { Going run part.now }
-    ensures { result ≡ rest run part.now }
-{
-    let window = run.window;
-    let base = run.base;
-    let mut at = run.at;
-    let mut last = run.deadline - 1;
-    let mut value = run.value;
-    while at < part.len() {
-        let byte = part[at];
-        if byte <= value {
-            if at == last {
-                let deadline = at + 1;
-                return cut(Run {
-                    window,
-                    base,
-                    deadline,
-                    value,
-                    at,
-                });
-            }
-        } else {
-            value = byte;
-            last = at + window;
+    // The start of a scan. The first byte of a chunk is its largest so far.
+    pub fn begun(scanner: Scanner, part: &'p [u8]) -> Self
+        requires sound { Sound scanner }
+        requires in_bounds { 1 ≤ length part.now }
+        ensures { Begun scanner result part.now }
+    {
+        let window = scanner.window as usize;
+        let count = scanner.count as usize;
+        if count != 0 {
+            return Run {
+                part,
+                window,
+                base: count,
+                deadline: scanner.place as usize + window - count,
+                value: scanner.value,
+                at: 0,
+            };
         }
-        at += 1;
+        Run {
+            part,
+            window,
+            base: 0,
+            deadline: 1 + window,
+            value: part[0],
+            at: 1,
+        }
     }
-    passed(Run {
-        window,
-        base,
-        deadline: last + 1,
-        value,
-        at,
-    })
+
+    // The part is passed, and no cut follows it.
+    pub fn passed(self) -> Fed
+        ensures { result ≡ uncut_at self.entry }
+    {
+        let scanner = Scanner {
+            window: self.window as u32,
+            count: (self.base + self.at) as u32,
+            place: self.place(),
+            value: self.value,
+        };
+        Fed::uncut(scanner, self.at)
+    }
+
+    // A cut follows the bytes up to the deadline. The maximum point is the largest byte so far.
+    pub fn cut(self) -> Fed
+        ensures { result ≡ cut_at self.entry }
+    {
+        let place = self.place();
+        Fed {
+            refusal: None,
+            scanner: fresh(self.window as u32),
+            consumed: self.deadline,
+            cut: true,
+            place,
+            value: self.value,
+        }
+    }
+
+    // The place of the largest byte so far, counted from 1 in the chunk.
+    fn place(self) -> u32
+        ensures { result ≡ self.entry.base + self.entry.deadline - self.entry.window }
+    {
+        (self.base + self.deadline - self.window) as u32
+    }
+
+    // Passes one byte, unless the chunk can end with it. Whether the second byte of a chunk is larger than the
+    // first is unpredictable, so this form compiles to a select.
+    pub fn pass_one(self) -> Self
+        ensures { Further self.entry result }
+    {
+        let at = self.at;
+        let next = at + 1;
+        if self.part.len() <= at {
+            return self;
+        }
+        if self.deadline <= next {
+            return self;
+        }
+        let byte = self.part[at];
+        let mut value = self.value;
+        let mut deadline = self.deadline;
+        if byte > value {
+            value = byte;
+            deadline = next + self.window;
+        }
+        Run {
+            part: self.part,
+            window: self.window,
+            base: self.base,
+            deadline,
+            value,
+            at: next,
+        }
+    }
+
+    // Byte by byte, up to the chunk's end or the part's: each byte is compared with the largest, and where it
+    // is not larger, its index with that of the byte that ends the chunk.
+    pub fn by_bytes(self) -> Fed
+        ensures { result ≡ rest self.entry }
+    {
+        let part = self.part;
+        let mut last = self.deadline - 1;
+        let mut value = self.value;
+        for at in self.at..part.len() {
+            let byte = part[at];
+            if byte <= value {
+                if at == last {
+                    let run = Run {
+                        part,
+                        window: self.window,
+                        base: self.base,
+                        deadline: at + 1,
+                        value,
+                        at,
+                    };
+                    return run.cut();
+                }
+            } else {
+                value = byte;
+                last = at + self.window;
+            }
+        }
+        let run = Run {
+            part,
+            window: self.window,
+            base: self.base,
+            deadline: last + 1,
+            value,
+            at: part.len(),
+        };
+        run.passed()
+    }
 }

@@ -6,8 +6,8 @@ use mathlib.Core.Path.{◌≡◌, sym, ap, subst, ◌∙◌}
 use mathlib.Core.Bool.{false}
 use mathlib.Core.List.{List}
 use lib.ListN.{length, get_or}
-use Rattle.blocks.specs.internal.Largest.{AtMost, FirstAt, Stands}
-use Rattle.blocks.proofs.laws.Largest.{first_within}
+use Rattle.blocks.specs.internal.Largest.{FirstAt}
+use Rattle.blocks.proofs.laws.Largest.{LargestFrom, first_within}
 use Rattle.scan.specs.declared.Fed.{Fed}
 use Rattle.scan.specs.declared.FirstChunk.{FirstChunk}
 use Rattle.scan.specs.Scan.{first_chunk}
@@ -37,17 +37,17 @@ module _ (part : List ℕ) (w base : ℕ) (asked : Fed) (byte : (q : ℕ) → ge
 
 -- of its rest only the first of the largest bytes, at j, matters
 module _ {part : List ℕ} {w base d v i : ℕ} {asked : Fed} (u : Underway part w base d v i asked) (late : length part < d) where
-  pub ends_larger : (j m : ℕ) → Stands part i (length part) m → AtMost part i (length part) m → FirstAt part i m j → v < m
-      → m < 256 → Underway part w base (j + 1 + w) m (length part) asked
-  ends_larger j m stands most first larger byte =
-      let within = first_within part i (length part) m j first stands in
+  pub ends_larger : (j m : ℕ) → LargestFrom part i m → FirstAt part i m j → v < m → m < 256
+      → Underway part w base (j + 1 + w) m (length part) asked
+  ends_larger j m largest first larger byte =
+      let within = first_within part i (length part) m j first (largest.stands (omega arith)) in
       subst (λ x. Underway part w base (j + 1 + w) x (length part) asked) first.is
       (rises_to u j (length part) (j + 1 + w) first.from within (omega arith) (omega arith) (omega (arith, first.is))
       (omega (arith, first.is))
-      (λ q l r. omega (arith, most.bound q l (omega arith), first.before q l r, first.is))
-      (λ q l r. omega (arith, most.bound q l r, first.is)) (omega arith))
+      (λ q l r. omega (arith, largest.most.bound q l (omega arith), first.before q l r, first.is))
+      (λ q l r. omega (arith, largest.most.bound q l r, first.is)) (omega arith))
 
-  pub ends_passed : (m : ℕ) → AtMost part i (length part) m → m ≤ v → Underway part w base d v (length part) asked
-  ends_passed m most not_larger =
+  pub ends_passed : (m : ℕ) → LargestFrom part i m → m ≤ v → Underway part w base d v (length part) asked
+  ends_passed m largest not_larger =
       passes_to u (length part) u.order.index (omega arith) late
-      (λ q l r. omega (arith, most.bound q l r))
+      (λ q l r. omega (arith, largest.most.bound q l r))

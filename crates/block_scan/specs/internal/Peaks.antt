@@ -2,7 +2,8 @@
 use Rattle.std.specs.Prelude.{ℕ, ◌+◌, ◌-◌, ◌≤◌, ◌<◌, ◌≡◌, List, length, get_or}
 use Rattle.blocks.specs.internal.Largest.{AtMost}
 use Rattle.scan.specs.declared.run.Run.{Run}
-use Rattle.scan.specs.internal.Run.{InOrder, onward}
+use Rattle.scan.specs.internal.Run.{onward, Further}
+use Rattle.scan.specs.internal.Order.{InOrder}
 
 -- from the largest byte so far, v, which stands before index i, a scan comes to a larger one, u before index j, or stays: its
 -- numbers are in order, and what is still to do gives the same answer
@@ -26,12 +27,12 @@ pub record Settled (part : List ℕ) (w i v j : ℕ) : Type 0 where
   pub ends : j + w ≤ length part → AtMost part j (j + w) value
 
 -- a run past a byte that is its largest so far, with a whole window to come
-pub record AtLargest (r : Run) (part : List ℕ) : Type 0 where
+pub record AtLargest (r : Run) : Type 0 where
   pub some : 1 ≤ r.at
-  pub value : r.value ≡ get_or part (r.at - 1) 0
+  pub value : r.value ≡ get_or r.part.now (r.at - 1) 0
   pub whole : r.deadline ≡ r.at + r.window
 
 -- the run once it has come to index j, past its largest byte so far
-unfoldable pub at_peak : Run → List ℕ → ℕ → Run
-at_peak r part j =
-    record { window = r.window; base = r.base; deadline = j + r.window; value = get_or part (j - 1) 0; at = j }
+pub record AtPeak (r next : Run) (j : ℕ) : Type 0 where
+  pub further : Further r next
+  pub deadline : next.deadline ≡ j + r.window

@@ -1,28 +1,35 @@
 -- Laws of the largest byte of a stretch, found byte by byte.
-use Prim.Native.Nat.{ℕ, ◌+◌, max, ◌≤◌, ◌<◌}
+use Prim.Native.Nat.{ℕ, zero, suc, ◌+◌, ◌-◌, max, ◌≤◌, ◌<◌}
 use native.Mathlib.Omega.{arith}
 use native.Mathlib.Nat.{le_refl}
 use native.Mathlib.Decide.{dec_lt}
-use mathlib.Core.Path.{◌≡◌, subst}
+use mathlib.Core.Path.{◌≡◌, refl, subst}
 use mathlib.Core.List.{List}
-use lib.ListN.{length, get_or}
-use Rattle.blocks.specs.internal.Largest.{Stands, AtMost, LargestFrom, FirstAt}
+use lib.ListN.{length, get_or, drop, drop_of_length-le}
+use Rattle.std.specs.List.{fold}
+use Rattle.std.proofs.lemmas.List.{drop_more}
+use Rattle.blocks.specs.internal.Largest.{Stands, AtMost, FirstAt}
 
 -- what holds at i holds at each index from i up to i + 1
 pub at_one : (P : ℕ → Type 0) (i q : ℕ) → P i → i ≤ q → q < i + 1 → P q
 at_one P i q h after within = let same : i ≡ q = omega arith in subst P same h
 
--- m is the largest byte from a up to i, 0 where there is none
-pub record Looked (xs : List ℕ) (a i m : ℕ) : Type 0 where
-  pub stands : 1 ≤ m → Stands xs a i m
-  pub most : AtMost xs a i m
+-- m is the largest byte from a on, 0 where there is none
+pub record LargestFrom (xs : List ℕ) (a m : ℕ) : Type 0 where
+  pub stands : 1 ≤ m → Stands xs a (length xs) m
+  pub most : AtMost xs a (length xs) m
+
+-- .. from a up to i
+record Looked (xs : List ℕ) (a i m : ℕ) : Type 0 where
+  stands : 1 ≤ m → Stands xs a i m
+  most : AtMost xs a i m
 
 module _ (xs : List ℕ) (a : ℕ) where
-  pub looked_none : Looked xs a a 0
+  looked_none : Looked xs a a 0
   looked_none = record { stands = λ h. absurd (omega arith); most = record { bound = λ q l r. absurd (omega arith) } }
 
   -- the next byte is looked at too
-  pub looked_more : (i m k : ℕ) → Looked xs a i m → a ≤ i → k ≡ max m (get_or xs i 0) → Looked xs a (i + 1) k
+  looked_more : (i m k : ℕ) → Looked xs a i m → a ≤ i → k ≡ max m (get_or xs i 0) → Looked xs a (i + 1) k
   looked_more i m k h order same =
       record {
         stands = λ some.
@@ -41,8 +48,19 @@ module _ (xs : List ℕ) (a : ℕ) where
         };
       }
 
-  pub looked_all : (m : ℕ) → Looked xs a (length xs) m → LargestFrom xs a m
-  looked_all m h = record { stands = h.stands; most = h.most }
+  -- the last n bytes are looked at too
+  looked_all : (n i m : ℕ) → Looked xs a i m → a ≤ i → i + n ≡ length xs → LargestFrom xs a (fold max m (drop i xs))
+  looked_all zero i m h order end =
+      let all : Looked xs a (length xs) m = subst (λ x. Looked xs a x m) (omega arith) h in
+      let done : length xs ≤ i = omega arith in
+      rw (drop_of_length-le xs done) (record { stands = all.stands; most = all.most })
+  looked_all (suc n) i m h order end =
+      let some : i < length xs = omega arith in
+      rw (drop_more xs i 0 some)
+      (looked_all n (i + 1) (max m (get_or xs i 0)) (looked_more i m _ h order refl) (omega arith) (omega arith))
+
+  pub largest_fold : (m : ℕ) → a ≤ length xs → m ≡ fold max 0 (drop a xs) → LargestFrom xs a m
+  largest_fold m within same = rw same (looked_all (length xs - a) a 0 looked_none (le_refl a) (omega arith))
 
 -- m stands from i up to e, and nowhere from a up to i
 pub record Unseen (xs : List ℕ) (a e m i : ℕ) : Type 0 where

@@ -1,5 +1,5 @@
 -- The largest bytes of a stretch.
-use Rattle.std.specs.Prelude.{ℕ, ◌+◌, ◌-◌, ◌≤◌, ◌<◌, ◌≡◌, Bool, true, false, List, length, get_or}
+use Rattle.std.specs.Prelude.{ℕ, ◌+◌, ◌-◌, ◌≤◌, ◌<◌, ◌≡◌, Bool, true, false, List, get_or}
 use Rattle.blocks.specs.declared.Peak.{Peak}
 
 -- the byte m stands at an index from a up to e
@@ -32,11 +32,6 @@ pub record FirstLargest (xs : List ℕ) (a e : ℕ) (p : Peak) : Type 0 where
   pub is : get_or xs (p.after - 1) 0 ≡ p.value
   pub before : (q : ℕ) → a ≤ q → q + 1 < p.after → get_or xs q 0 < p.value
   pub most : AtMost xs a e p.value
-
--- m is the largest byte from a on, 0 where there is none
-pub record LargestFrom (xs : List ℕ) (a m : ℕ) : Type 0 where
-  pub stands : 1 ≤ m → Stands xs a (length xs) m
-  pub most : AtMost xs a (length xs) m
 
 -- j is the first index from a on at which m stands
 pub record FirstAt (xs : List ℕ) (a m j : ℕ) : Type 0 where

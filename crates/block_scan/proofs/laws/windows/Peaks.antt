@@ -11,7 +11,8 @@ use Rattle.blocks.specs.internal.Largest.{Exceeded, AtMost, FirstLargest}
 use Rattle.blocks.proofs.laws.Largest.{at_one}
 use Rattle.scan.specs.Scan.{cut_after}
 use Rattle.scan.specs.declared.run.Run.{Run}
-use Rattle.scan.specs.internal.Run.{InOrder, onward, PastFirst}
+use Rattle.scan.specs.internal.Run.{onward, rest, PastFirst}
+use Rattle.scan.specs.internal.Order.{InOrder}
 use Rattle.scan.proofs.laws.run.Underway.{Underway, rises_to, cuts_to}
 use Rattle.block_scan.specs.internal.Peaks.{Reached, Settled, AtLargest}
 
@@ -97,39 +98,36 @@ module _ {part : List ℕ} {w i v : ℕ} where
   pub stops_short : {j u : ℕ} → Reached part w i v j u → length part < j + w → Settled part w i v j
   stops_short {j} {u} reached late = record { value = u; reached = reached; ends = λ inside. absurd (omega arith) }
 
--- from past its largest byte so far it comes past its largest byte so far
-pub settled_byte : {part : List ℕ} {w j : ℕ} (r : Run) → AtLargest r part → (s : Settled part w r.at r.value j)
-    → s.value ≡ get_or part (j - 1) 0
-settled_byte {part} {j} r largest s =
-    elim (dec_lt r.at j) [
-      | yes c ↦ s.reached.moved c
-      | no c ↦
-          let same : j ≡ r.at = omega (arith, s.reached.on) in
-          s.reached.kept same ∙ (largest.value ∙ ap (λ x. get_or part (x - 1) 0) (sym same))
-    ]
-
 -- a run past its first byte is past its largest byte so far
-pub first_largest : (r : Run) (part : List ℕ) → PastFirst r part → AtLargest r part
-first_largest r part first =
+pub first_largest : (r : Run) → PastFirst r → AtLargest r
+first_largest r first =
     record {
       some = omega (arith, first.at);
-      value = first.value ∙ ap (λ x. get_or part x 0) (omega (arith, first.at));
+      value = first.value ∙ ap (λ x. get_or r.part.now x 0) (omega (arith, first.at));
       whole = first.whole;
     }
 
--- a scan with a whole window to come, which has settled with u as the largest byte so far
-module _ {part : List ℕ} {w base d v i j : ℕ} (s : Settled part w i v j) (o : InOrder part w base d v i) (whole : d ≡ i + w)
-    (u : ℕ) (is : s.value ≡ u) where
-  start : InOrder part w base (i + w) v i
-  start = rw whole at o
+-- a run past its largest byte so far comes past its largest byte so far, where it settles at index j
+module _ {r : Run} {j : ℕ} (s : Settled r.part.now r.window r.at r.value j) (largest : AtLargest r) where
+  settled_byte : s.value ≡ get_or r.part.now (j - 1) 0
+  settled_byte =
+      elim (dec_lt r.at j) [
+        | yes c ↦ s.reached.moved c
+        | no c ↦
+            let same : j ≡ r.at = omega (arith, s.reached.on) in
+            s.reached.kept same ∙ (largest.value ∙ ap (λ x. get_or r.part.now (x - 1) 0) (sym same))
+      ]
 
-  -- it is under way from there
-  pub settled_under : Underway part w base (j + w) u j (onward part w base d v i)
+  -- the scan is under way from there
+  pub settled_under : Underway r.part.now r.window r.base (j + r.window) (get_or r.part.now (j - 1) 0) j (rest r)
   settled_under =
-      subst (λ x. Underway part w base (j + w) x j (onward part w base d v i)) is
-      (rw whole (record { order = s.reached.order base start; gives = s.reached.gives base start }))
+      let start : InOrder r.part.now r.window r.base (r.at + r.window) r.value r.at = rw largest.whole at r.order in
+      subst (λ x. Underway r.part.now r.window r.base (j + r.window) x j (rest r)) settled_byte
+      (rw largest.whole (record { order = s.reached.order r.base start; gives = s.reached.gives r.base start }))
 
   -- the chunk ends after the window, if the part holds it
-  pub settled_cuts : (e : ℕ) → e ≡ j + w → e ≤ length part → cut_after w e (base + e - w) u ≡ onward part w base d v i
+  pub settled_cuts : (e : ℕ) → e ≡ j + r.window → e ≤ length r.part.now
+      → cut_after r.window e (r.base + e - r.window) (get_or r.part.now (j - 1) 0) ≡ rest r
   settled_cuts e same inside =
-      cuts_to settled_under e same inside (λ q l r. omega (arith, is, (s.ends (omega arith)).bound q l (omega arith)))
+      cuts_to settled_under e same inside
+      (λ q l h. omega (arith, settled_byte, (s.ends (omega arith)).bound q l (omega arith)))

@@ -1,11 +1,7 @@
 -- `block_scan::windows::while_larger` meets its contract: each turn passes a byte that is larger than all before it.
-use Prim.Native.Nat.{◌-◌}
-use lib.ListN.{length}
+use mathlib.Core.Path.{◌≡◌}
 use Rattle.block_scan.specs.internal.Peaks.{Rising}
 use Rattle.block_scan.proofs.windows.while_larger.Given as goal
 
-abbrev pub invariant-loop-peak : goal.invariant-loop-peak
-invariant-loop-peak l = Rising l.part l.initial.peak.after l.initial.peak.value l.peak.after l.peak.value
-
-abbrev pub decreases-loop-peak : goal.decreases-loop-peak
-decreases-loop-peak l = length l.part - l.peak.after
+abbrev pub invariant-loop-at : goal.invariant-loop-at
+invariant-loop-at l = (l.at ≡ l.peak.after) × Rising l.part l.fn.peak.after l.fn.peak.value l.peak.after l.peak.value

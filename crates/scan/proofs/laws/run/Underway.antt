@@ -9,7 +9,8 @@ use lib.ListN.{length, get_or}
 use Rattle.scan.specs.declared.Scanner.{Scanner}
 use Rattle.scan.specs.declared.Fed.{Fed}
 use Rattle.scan.specs.Scan.{uncut, cut_after, scan}
-use Rattle.scan.specs.internal.Run.{standing, onward, InOrder}
+use Rattle.scan.specs.internal.Run.{standing, onward}
+use Rattle.scan.specs.internal.Order.{InOrder}
 use Rattle.scan.specs.internal.Sound.{Sound}
 use Rattle.scan.proofs.laws.run.Scanning.{starts, ends, holds_to, cuts_at, peaks}
 use Rattle.scan.specs.Limits.{window_limit, chunk_limit}
