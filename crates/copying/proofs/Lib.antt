@@ -1,2 +1,2 @@
--- laws/Written has the laws of a write; the other laws serve the functions.
+-- laws/Written has the laws of a write; laws/Stretches serves the loop over blocks.
 pub mod laws

@@ -1,2 +1,1 @@
 pub mod Covered
-pub mod Fours

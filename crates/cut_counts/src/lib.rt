@@ -19,26 +19,29 @@ pub struct CutCounts {
     pub high: u32,
 }
 
-// No cut is counted yet.
+// No cut is counted yet. A constant and no `Default`: callers compute with it in their proofs, and need no call.
 pub const NONE: CutCounts = CutCounts {
     low: 0,
     printable: 0,
     high: 0,
 };
 
-// The counts with a job's next chunk, which counts only if a cut ends it.
-pub fn with_chunk(counts: CutCounts, chunk: FirstChunk) -> CutCounts
-    requires { counts.low + counts.printable + counts.high + 1 < 2 ^ 32 }
-    ensures { result ≡ with_chunk counts chunk }
-{
-    if !chunk.cut {
-        return counts;
-    }
-    let low = (chunk.value < FIRST_PRINTABLE) as u32;
-    let high = (LAST_PRINTABLE < chunk.value) as u32;
-    CutCounts {
-        low: counts.low + low,
-        printable: counts.printable + (1 - low - high),
-        high: counts.high + high,
+impl CutCounts {
+    // The counts with a job's next chunk, which counts only if a cut ends it. The kinds are added without a branch: a job took
+    // up to a tenth longer with branches by the value.
+    pub fn with_chunk(self, chunk: FirstChunk) -> CutCounts
+        requires { self.low + self.printable + self.high + 1 < 2 ^ 32 }
+        ensures { result ≡ with_chunk self chunk }
+    {
+        if !chunk.cut {
+            return self;
+        }
+        let low = u32::from(chunk.value < FIRST_PRINTABLE);
+        let high = u32::from(LAST_PRINTABLE < chunk.value);
+        CutCounts {
+            low: self.low + low,
+            printable: self.printable + (1 - low - high),
+            high: self.high + high,
+        }
     }
 }

@@ -1,5 +1,5 @@
-// The directory of a store: two numbers per entry, the chunk's offset in the pool and its length. The layer
-// below the store.
+// The directory of a store: two numbers per entry, the chunk's offset in the pool and its length. C lends it as a slice
+// of numbers, so these are functions over one. The layer below the store.
 #![tactic(auto)]
 
 ghost use Rattle.std.specs.Prelude.{◌≡◌, ◌+◌, ◌*◌, ◌<◌, length};

@@ -1,18 +1,16 @@
 // The Gear sum of bytes, by a constant table, and the chain that it chooses.
 #![tactic(auto)]
 
-ghost use Rattle.std.specs.Prelude.{◌≡◌, ◌+◌, ◌-◌, ◌*◌, ◌/◌, ◌%◌, ◌^◌, ◌<◌, ◌≤◌, length, take, drop, slice_index, slice_range};
+ghost use Rattle.std.specs.Prelude.{◌≡◌, ◌+◌, ◌-◌, ◌*◌, ◌/◌, ◌%◌, ◌^◌, ◌<◌, ◌≤◌, length, take, drop, slice_index};
 ghost use Rattle.gear.specs.Gear.{table, sum, chain};
 ghost use Rattle.gear.specs.internal.After.{after_sum};
 
 // The chains of an index: one for each number of ten bits.
 pub const CHAINS: usize = 1024;
 
-// The entries of the table, one for each byte.
-pub type Entries = [u32; 256];
-
-// Entry 0 is 270369; three xorshift steps make each next entry from the last.
-const TABLE: Entries = [
+// The constant table, one entry for each byte. Entry 0 is 270369; three xorshift steps make each next entry from the last.
+// A static is never written, and is read where it lies; a `const` would be copied at each use.
+static TABLE: [u32; 256] = [
     270369, 67634689, 2647435461, 307599695, 2398689233, 745495504, 632435482, 435756210,
     2005365029, 2916098932, 2657092299, 1495045943, 3031976842, 82049198, 87470069, 3385103793,
     891394312, 3323190024, 321008529, 4283899417, 2383559219, 3822316985, 1391776747, 3652395599,
@@ -47,74 +45,53 @@ const TABLE: Entries = [
     603019398, 349307446, 3322537980, 2754955879, 2722903995, 3017013542, 1377613053, 1424859452,
 ];
 
-// The entries of the table. Whatever reads the constant first copies all of it to the stack, so a
-// loop makes one copy before it starts.
-pub fn entries() -> Entries
-    ensures { result ≡ table }
-{
-    TABLE
-}
-
 // A sum after one more byte: twice itself plus the byte's entry, kept to 32 bits.
-fn step(entries: &Entries, sum: u32, b: u8) -> u32
-    requires { entries.now ≡ table }
+fn step(sum: u32, b: u8) -> u32
     ensures { result ≡ (sum * 2 + slice_index table b) % 2 ^ 32 }
 {
-    std::num::wrapping_add_u32(std::num::wrapping_add_u32(sum, sum), entries[b as usize])
-}
-
-// The sum of the bytes from one place to another.
-fn stretch(entries: &Entries, bytes: &[u8], from: usize, to: usize) -> u32
-    requires { (entries.now ≡ table) × (from ≤ to) × (to ≤ length bytes.now) }
-    ensures { result ≡ sum (slice_range bytes.now from to) }
-{
-    let mut sum: u32 = 0;
-    let mut at = from;
-    while at < to {
-        sum = step(entries, sum, bytes[at]);
-        at += 1;
-    }
-    sum
+    sum.wrapping_add(sum).wrapping_add(TABLE[b as usize])
 }
 
 // The sum of some bytes and eight more, from the sum of each: eight bytes double the first eight times.
 fn joined(high: u32, low: u32) -> u32
     ensures { result ≡ (high * 2 ^ 8 + low) % 2 ^ 32 }
 {
-    std::num::wrapping_add_u32(high << 8, low)
+    (high << 8).wrapping_add(low)
 }
 
 // The sum of the 32 bytes before a place. Each step waits for the one before it, so four stretches of
 // eight bytes are summed side by side.
-fn last_32(entries: &Entries, bytes: &[u8], end: usize) -> u32
-    requires { (entries.now ≡ table) × (32 ≤ end) × (end ≤ length bytes.now) }
+fn last_32(bytes: &[u8], end: usize) -> u32
+    requires { (32 ≤ end) × (end ≤ length bytes.now) }
     ensures { result ≡ sum (take 32 (drop (end - 32) bytes.now)) }
 {
     let mut first: u32 = 0;
     let mut second: u32 = 0;
     let mut third: u32 = 0;
     let mut fourth: u32 = 0;
-    let mut at = end - 32;
-    while at < end - 24 {
-        first = step(entries, first, bytes[at]);
-        second = step(entries, second, bytes[at + 8]);
-        third = step(entries, third, bytes[at + 16]);
-        fourth = step(entries, fourth, bytes[at + 24]);
-        at += 1;
+    for at in end - 32..end - 24 {
+        first = step(first, bytes[at]);
+        second = step(second, bytes[at + 8]);
+        third = step(third, bytes[at + 16]);
+        fourth = step(fourth, bytes[at + 24]);
     }
     joined(joined(joined(first, second), third), fourth)
 }
 
 // The sum of the bytes before a place. At most the last 32 of them are summed, since no others show: each byte doubles the
 // sum, and 32 doublings leave nothing of it in 32 bits.
-pub fn sum_to(entries: &Entries, bytes: &[u8], end: usize) -> u32
-    requires { (entries.now ≡ table) × (end ≤ length bytes.now) }
+pub fn sum_to(bytes: &[u8], end: usize) -> u32
+    requires { end ≤ length bytes.now }
     ensures { result ≡ sum (take end bytes.now) }
 {
-    if end < 32 {
-        return stretch(entries, bytes, 0, end);
+    if 32 <= end {
+        return last_32(bytes, end);
     }
-    last_32(entries, bytes, end)
+    let mut sum: u32 = 0;
+    for byte in &bytes[..end] {
+        sum = step(sum, *byte);
+    }
+    sum
 }
 
 // The sum of the last `size` bytes, from the sum of all of them and the sum of those before.
@@ -124,7 +101,7 @@ pub fn without(whole: u32, before: u32, size: usize) -> u32
     if 32 <= size {
         return whole;
     }
-    std::num::wrapping_sub_u32(whole, before << size as u32)
+    whole.wrapping_sub(before << size as u32)
 }
 
 // The chain that a sum's top ten bits choose.
@@ -136,10 +113,9 @@ pub fn chain_of(sum: u32) -> usize
 }
 
 // The chain of some bytes.
-pub fn chain(entries: &Entries, bytes: &[u8]) -> usize
-    requires { entries.now ≡ table }
+pub fn chain(bytes: &[u8]) -> usize
     ensures chain { result ≡ chain bytes.now }
     ensures below { result < 1024 }
 {
-    chain_of(sum_to(entries, bytes, bytes.len()))
+    chain_of(sum_to(bytes, bytes.len()))
 }

@@ -17,13 +17,13 @@ const PACKET_CHARGE: u64 = 72;
 pub fn packets(numbers: u32) -> u64
     ensures { result ≡ packets numbers }
 {
-    (NUMBER_BYTES * numbers as u64 + (PACKET_BYTES - 1)) / PACKET_BYTES
+    (NUMBER_BYTES * u64::from(numbers)).div_ceil(PACKET_BYTES)
 }
 
 // The job's length less its new bytes and the charge of the packets; it can be negative.
 pub fn saving(job_length: u32, new_bytes: u32, numbers: u32) -> i64
     ensures { result ≡ saving_of job_length new_bytes numbers }
 {
-    let charged = new_bytes as u64 + PACKET_CHARGE * packets(numbers);
-    job_length as i64 - charged as i64
+    let charged = u64::from(new_bytes) + PACKET_CHARGE * packets(numbers);
+    i64::from(job_length) - charged as i64
 }

@@ -1,18 +1,18 @@
 -- Laws of a write.
 use Prim.Native.Nat.{ℕ, ◌+◌, ◌-◌, ◌≤◌}
 use native.Mathlib.Omega.{arith}
-use native.Mathlib.Nat.{add-zero}
 use mathlib.Core.Path.{◌≡◌, sym, ap, ◌∙◌}
 use mathlib.Core.List.{List, ◌++◌, append_assoc}
 use lib.ListN.{length, take, drop, length-append, length-take, length-drop}
-use lib.Seq.{paste, take-length, take-append-le, take-append-add, drop_at, drop-drop, length-take-le}
+use lib.Seq.{take-length, take-append_seam, take-append-le, take-append-add, drop_at, drop-drop, length-take-le}
 use Rattle.copying.specs.Written.{written}
 
--- a copy of n bytes is a write of them
-pub pasted : (d : List ℕ) (at : ℕ) (s : List ℕ) (n : ℕ) → n ≤ length s → paste d at s n ≡ written d at (take n s)
-pasted d at s n h =
-    append_assoc (take at d) (take n s) (drop (at + n) d)
-    ∙ ap (λ k. take at d ++ (take n s ++ drop (at + k) d)) (sym (length-take-le n s h))
+-- what is written stands at its place
+pub written_there : (l : List ℕ) (at : ℕ) (bytes : List ℕ) → at + length bytes ≤ length l
+    → take (length bytes) (drop at (written l at bytes)) ≡ bytes
+written_there l at bytes h =
+    let rest = bytes ++ drop (at + length bytes) l in
+    ap (take (length bytes)) (drop_at (take at l) rest at (length-take-le at l (omega arith))) ∙ take-append_seam bytes _
 
 -- a write changes no length
 pub written_length : (l : List ℕ) (at : ℕ) (bytes : List ℕ) → at + length bytes ≤ length l
@@ -45,8 +45,3 @@ pub written_twice : (l : List ℕ) (at : ℕ) (a b : List ℕ) → at + length a
     → written (written l at a) (at + length a) b ≡ written l at (a ++ b)
 written_twice l at a b h =
     written_over l at a b (length a) h (omega arith) (omega arith) ∙ ap (λ x. written l at (x ++ b)) (take-length a)
-
--- of two writes at one place the second counts, if it is no shorter
-pub written_anew : (l : List ℕ) (at : ℕ) (a b : List ℕ) → at + length a ≤ length l → length a ≤ length b
-    → written (written l at a) at b ≡ written l at b
-written_anew l at a b h covered = rw add-zero at (written_over l at a b 0 h (omega arith) (omega arith))

@@ -4,11 +4,11 @@ use native.Mathlib.Omega.{arith}
 use mathlib.Core.Path.{◌≡◌, ap, sym, ◌∙◌}
 use mathlib.Core.Bool.{Bool, true, false, cond}
 use lib.Dec.{ltb, le→leb}
-use lib.IntN.{pos, negsuc, ◌+ℤ◌, ◌-ℤ◌, neg_ℤ, +ℤ_assoc, neg_ℤ-+ℤ}
+use lib.IntN.{ℤ, pos, negsuc, ◌+ℤ◌, ◌-ℤ◌, neg_ℤ, +ℤ_assoc, neg_ℤ-+ℤ}
 use lib.Signed.{◌≤ℤ◌, le_z_yes}
 use mir.Syntax.{w64}
-use mir.Val.{SFits, to_z}
-use mir.Facts.{to_z_pos}
+use mir.Val.{SFits, to_z, of_z}
+use mir.Facts.{to_z_pos, to_z-of_z}
 use Rattle.tariff.specs.Tariff.{packet_charge, packets, saving_of}
 
 -- 32 bits hold the packets of numbers that they hold
@@ -43,9 +43,14 @@ difference_fits : (a b : ℕ) → a < 2 ^ 62 → b < 2 ^ 62 → SFits w64 (pos a
 difference_fits a zero h g = record { sfits = omega arith }
 difference_fits a (suc b) h g = by_order a (suc b) (ltb a (suc b)) h g
 
--- read from the machine's bits
-pub same_difference : (a b : ℕ) → a < 2 ^ 62 → b < 2 ^ 62 → to_z w64 a -ℤ to_z w64 b ≡ pos a -ℤ pos b
-same_difference a b h g = rw (to_z_pos w64 {n = a} (omega arith), to_z_pos w64 {n = b} (omega arith))
+-- a number within both ranges
+small_fits : (a : ℕ) → a < 2 ^ 62 → SFits w64 (pos a)
+small_fits a h = record { sfits = omega arith }
 
-pub saving_fits : (a b : ℕ) → a < 2 ^ 62 → b < 2 ^ 62 → SFits w64 (to_z w64 a -ℤ to_z w64 b)
-saving_fits a b h g = rw (same_difference a b h g) (difference_fits a b h g)
+-- read from the machine's bits
+pub same_difference : (j : ℤ) (a b : ℕ) → j ≡ pos a → a < 2 ^ 62 → b < 2 ^ 62
+    → to_z w64 (of_z w64 j) -ℤ to_z w64 b ≡ pos a -ℤ pos b
+same_difference j a b e h g = rw (e, to_z-of_z (small_fits a h), to_z_pos w64 {n = b} (omega arith))
+
+pub saving_fits : (j : ℤ) (a b : ℕ) → j ≡ pos a → a < 2 ^ 62 → b < 2 ^ 62 → SFits w64 (to_z w64 (of_z w64 j) -ℤ to_z w64 b)
+saving_fits j a b e h g = rw (same_difference j a b e h g) (difference_fits a b h g)

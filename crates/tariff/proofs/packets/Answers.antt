@@ -1,8 +1,8 @@
 -- `tariff::packets` meets its contract.
-use mathlib.Core.Path.{refl}
+use borrow.Author.Rules.{rules}
 use Rattle.tariff.specs.Tariff.{packets}
 use Rattle.tariff.proofs.packets.Goals as goal
 
 pub returns : goal.returns
 unfolding packets
-returns c = refl
+returns c = search rules

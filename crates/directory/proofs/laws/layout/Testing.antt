@@ -1,16 +1,7 @@
 -- The test of a directory's layout, an entry at a time.
-use Rattle.std.proofs.Common.{◌≡◌, ℕ, zero, suc, ◌+◌, ◌-◌, ◌*◌, ◌%◌, ◌^◌, ◌<◌, ◌≤◌, true, false, ◌&&◌, eqb, ltb, leb, List, sym, ◌∙◌, add-one, arith, le-leb}
-use borrow.Author.Tests.{lt-leb}
+use Rattle.std.proofs.Common.{◌≡◌, ℕ, suc, ◌+◌, ◌-◌, ◌*◌, ◌<◌, ◌≤◌, true, false, ◌&&◌, eqb, List, sym, ◌∙◌, add-one, arith}
 use Rattle.directory.specs.Entry.{offset_at, length_at}
 use Rattle.directory.specs.Layout.{entry_allowed, laid_out}
-
--- a length less 1, modulo 2^64, is below the longest just where the length is 1 to the longest
-pub one_test : (less size longest : ℕ) → less < 2 ^ 64 → longest < 2 ^ 64 → (less + 1) % 2 ^ 64 ≡ size
-    → ltb less longest ≡ (leb 1 size && leb size longest)
-one_test less zero longest h l e = lt-leb (suc less) longest (omega arith)
-one_test less (suc n) longest h l e =
-    let one : suc less ≡ suc n = omega arith in
-    rw (le-leb 1 (suc n) (omega arith), one)
 
 -- of the first `count` entries those from `entry` on are still to test, and the answer is theirs
 pub record Tested (w : ℕ) (directory : List ℕ) (filled count from entry : ℕ) : Type 0 where
