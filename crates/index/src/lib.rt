@@ -2,13 +2,14 @@
 #![tactic(auto)]
 
 ghost use Rattle.std.specs.Prelude.{◌≡◌, true, [], ◌∷◌, ◌+◌, ◌≤◌, ◌<◌, length, set};
+ghost use Rattle.std.specs.Result.{result_err};
 ghost use Rattle.refusal.specs.Grounds.{first};
 ghost use Rattle.gear.specs.Gear.{chains};
 ghost use Rattle.store.specs.Grounds.{fits};
 ghost use Rattle.store.specs.Limits.{directory_limit};
 ghost use Rattle.store.specs.Memory.{contents};
 ghost use Rattle.index.specs.Index.{head_at};
-ghost use Rattle.index.specs.Grounds.{index_length_ground, index_ground};
+ghost use Rattle.index.specs.Grounds.{length_allowed, meets, index_length_ground, index_ground};
 
 mod chains;
 mod order;
@@ -22,27 +23,41 @@ pub const HEADS: usize = gear::CHAINS;
 // The end of a chain.
 pub const NONE: u32 = 4294967295;
 
-// The first of the grounds 11 and 12 that holds of an index, if any. The pass in order is the quicker test, and accepts what
+// Whether the index has a head for each chain and a link for each entry of the directory (ground 11).
+fn length_allowed(directory: &[u32], index: &[u32]) -> bool
+    ensures { result ≡ length_allowed directory.now index.now }
+{
+    index.len() == HEADS + directory::entries(directory)
+}
+
+// Whether the chains meet every chunk of the store (ground 12). The pass in order is the quicker test, and accepts what
 // takes leave; the steps along the chains decide of any other index.
-pub fn index_ground(head: Head, pool: &[u8], directory: &[u32], index: &[u32]) -> Refusal
+fn meets(head: Head, pool: &[u8], directory: &[u32], index: &[u32]) -> bool
     requires directory_value { fits head pool.now directory.now ≡ true }
     requires directory_len_bound { length directory.now ≤ directory_limit }
-    ensures { result ≡ first
+    requires allowed { length_allowed directory.now index.now ≡ true }
+    ensures { result ≡ meets index.now (contents pool.now directory.now head.chunks.0) }
+{
+    order::ordered(head, pool, directory, index)
+        || chains::along_all(pool, directory, index, head.chunks.0 as usize)
+}
+
+// The first of the grounds 11 and 12 that holds of an index, if any.
+pub fn index_ground(
+    head: Head,
+    pool: &[u8],
+    directory: &[u32],
+    index: &[u32],
+) -> Result<(), Refusal>
+    requires directory_value { fits head pool.now directory.now ≡ true }
+    requires directory_len_bound { length directory.now ≤ directory_limit }
+    ensures { result_err result ≡ first
         (index_length_ground directory.now index.now
         ∷ index_ground index.now (contents pool.now directory.now head.chunks.0)
         ∷ []) }
 {
-    if index.len() != HEADS + directory::entries(directory) {
-        return Refusal::IndexLength;
-    }
-    if order::ordered(head, pool, directory, index) {
-        return Refusal::Accepted;
-    }
-    let chunks = head.chunks;
-    if chains::along_all(pool, directory, index, chunks.0 as usize) {
-        return Refusal::Accepted;
-    }
-    Refusal::Index
+    refusal::unless(length_allowed(directory, index), Refusal::IndexLength)?;
+    refusal::unless(meets(head, pool, directory, index), Refusal::Index)
 }
 
 // Enters a number at the front of a chain.

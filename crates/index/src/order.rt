@@ -20,19 +20,15 @@ fn as_link(head: u32) -> u32
     if head == NO_NUMBER { NONE } else { head }
 }
 
-// Whether the index begins with these heads. All are compared, so that the compiler vectorises it.
-fn same_heads(heads: &[u32; 1024], index: &[u32]) -> bool
-    requires heads_len { length heads.now ≡ chains }
-    requires chains_in_bounds { chains ≤ length index.now }
+// Whether the index begins with these heads. All are compared, without a branch: with a return at the first that differs it
+// takes 1.24 times as long by Rattle's compiler, which unrolls the loop, and 3.7 times by LLVM, which makes vectors of it.
+fn same_heads(heads: &[u32; HEADS], index: &[u32]) -> bool
+    requires { chains ≤ length index.now }
     ensures { result ≡ same (map as_link heads.now) (take chains index.now) }
 {
     let mut same = true;
-    let mut chain = 0;
-    while chain < HEADS {
-        let own = as_link(heads[chain]);
-        let lent = index[chain];
-        chain += 1;
-        if own != lent {
+    for chain in 0..HEADS {
+        if as_link(heads[chain]) != index[chain] {
             same = false;
         }
     }
@@ -49,24 +45,21 @@ pub fn ordered(head: Head, pool: &[u8], directory: &[u32], index: &[u32]) -> boo
     ensures { result ≡ ordered index.now
         (contents pool.now directory.now head.chunks.0) }
 {
-    let entries = gear::entries();
-    let mut heads: [u32; 1024] = [NO_NUMBER; 1024];
+    let mut heads = [NO_NUMBER; HEADS];
     let chunks = head.chunks;
     let count = chunks.0 as usize;
     let mut before: u32 = 0;
     let mut end = 0;
-    let mut number = 0;
-    while number < count {
+    for number in 0..count {
         let size = directory::length_of(directory, number);
         end += size;
-        let whole = gear::sum_to(&entries, pool, end);
+        let whole = gear::sum_to(pool, end);
         let chain = gear::chain_of(gear::without(whole, before, size));
         before = whole;
         if index[HEADS + number] != as_link(heads[chain]) {
             return false;
         }
         heads[chain] = number as u32;
-        number += 1;
     }
     same_heads(&heads, index)
 }

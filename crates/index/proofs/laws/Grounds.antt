@@ -1,14 +1,11 @@
 -- The first of the grounds 11 and 12 that holds, by their tests.
 use Prim.Native.Nat.{ℕ, ◌+◌, ◌≤◌}
 use native.Mathlib.Omega.{arith}
-use mathlib.Core.Path.{◌≡◌}
-use mathlib.Core.Bool.{true, false}
-use mathlib.Core.List.{List, [], ◌∷◌}
+use mathlib.Core.Path.{◌≡◌, sym}
+use mathlib.Core.Bool.{true}
+use mathlib.Core.List.{List}
 use lib.ListN.{length}
-use borrow.Author.Tests.{eqb-true, eq-eqb, ne_eqb}
-use Rattle.refusal.specs.Grounds.{first}
-use Rattle.refusal.specs.declared.Refusal.{Refusal}
-use Rattle.refusal.specs.declared.Refusal.TheVariants.{Accepted, IndexLength, Index}
+use borrow.Author.Tests.{eqb-true}
 use Rattle.gear.specs.Gear.{chains}
 use Rattle.directory.specs.Entry.{entries}
 use Rattle.store.specs.declared.Head.{Head}
@@ -18,7 +15,7 @@ use Rattle.store.specs.Memory.{contents}
 use Rattle.store.specs.internal.EntriesIn.{EntriesIn}
 use Rattle.store.proofs.laws.Memory.{contents_length}
 use Rattle.store.proofs.laws.grounds.Fitting.{fits_facts, entries_in_lem}
-use Rattle.index.specs.Grounds.{length_allowed, index_length_ground, meets, index_ground}
+use Rattle.index.specs.Grounds.{length_allowed, meets}
 use Rattle.index.specs.Ordered.{no_number, ordered}
 use Rattle.index.proofs.laws.Accepting.{met_meets}
 use Rattle.index.proofs.laws.Ordering.{ordered_met}
@@ -39,39 +36,20 @@ module _ (head : Head) (pool directory index : List ℕ) where
   abbrev held : List (List ℕ)
   held = contents pool directory head.chunks.0
 
-  abbrev ground : Refusal
-  ground = first (index_length_ground directory index ∷ index_ground index held ∷ [])
-
-  -- another length
-  pub ground_length : (length index ≡ chains + entries directory → ⊥) → IndexLength ≡ ground
-  unfolding length_allowed
-  ground_length o = rw (ne_eqb (length index) (chains + entries directory) o)
-
-  module _ (e : length index ≡ chains + entries directory) where
-    allowed : length_allowed directory index ≡ true
+  -- an index of the right length can be tested
+  module _ (e : length_allowed directory index ≡ true) (f : fits head pool directory ≡ true) (l : length directory ≤ directory_limit) where
+    pub testable : Testable head pool directory index
     unfolding length_allowed
-    allowed = eq-eqb (length index) (chains + entries directory) e
+    testable =
+        let facts = fits_facts head pool directory f in
+        record {
+          entries = entries_in_lem head pool directory f;
+          room = omega (arith, facts.counted, eqb-true (length index) (chains + entries directory) e);
+          few = omega (arith, facts.counted);
+        }
 
-    -- the chains meet every chunk
-    pub ground_none : meets index held ≡ true → Accepted ≡ ground
-    ground_none h = rw (allowed, h)
-
-    -- they do not
-    pub ground_chains : meets index held ≡ false → Index ≡ ground
-    ground_chains h = rw (allowed, h)
-
-    module _ (f : fits head pool directory ≡ true) (l : length directory ≤ directory_limit) where
-      pub testable : Testable head pool directory index
-      testable =
-          let facts = fits_facts head pool directory f in
-          record {
-            entries = entries_in_lem head pool directory f;
-            room = omega (arith, facts.counted);
-            few = omega (arith, facts.counted);
-          }
-
-      -- the pass in order accepts it
-      pub ground_ordered : ordered index held ≡ true → Accepted ≡ ground
-      ground_ordered h =
-          let n = contents_length pool directory 0 head.chunks.0 in
-          ground_none (met_meets held index (ordered_met index held (omega (arith, testable.room)) (omega (arith, testable.few)) h))
+    -- where the pass in order accepts it, its chains meet every chunk
+    pub ordered_meets : ordered index held ≡ true → true ≡ meets index held
+    ordered_meets h =
+        let n = contents_length pool directory 0 head.chunks.0 in
+        sym (met_meets held index (ordered_met index held (omega (arith, testable.room)) (omega (arith, testable.few)) h))

@@ -1,27 +1,32 @@
--- `search::stands_at` meets its contract: each turn passes 16 bytes that agree, and then the rest is compared.
+-- `search::stands_at` meets its contract: each turn passes a byte that agrees.
+use Prim.Native.Nat.{ℕ, ◌+◌, ◌-◌, ◌<◌, ◌≤◌}
 use native.Mathlib.Omega.{arith}
-use Rattle.search.proofs.laws.Comparing.{differs_more, agree_on}
-use Rattle.search.proofs.laws.Standing.{stands_by, stands_not}
+use borrow.Author.Rules.{rules}
+use mathlib.Core.Bool.{true, false}
+use mathlib.Core.Path.{◌≡◌, ap, sym}
+use mathlib.Core.List.{List}
+use lib.ListN.{length, get_or}
+use lib.Seq.{ext_get_or}
+use Rattle.store.specs.Contents.{same}
+use Rattle.store.proofs.laws.contents.Sameness.{equal_same, same_other}
 use Rattle.search.proofs.stands_at.Goals as goal
 
-pub loop-at-init : goal.loop-at-init
-loop-at-init c = (omega arith, record { each = λ k h l. absurd (omega arith) })
+-- the length of the part
+size : (from n : ℕ) → from + n - from ≡ n
+size from n = omega arith
 
-pub returns-then-differs_16 : goal.returns-then-differs_16
-returns-then-differs_16 c =
-    let turn = c in
-    let a = turn.args in
-    stands_not a.bytes.now a.chunk.now a.from
-    (differs_more (c.differs_16.ensures.differs c.if-differs_16.true) (omega arith))
+-- a byte differs
+unlike : (part chunk : List ℕ) (k : ℕ) → (get_or part k 0 ≡ get_or chunk k 0 → ⊥) → false ≡ same part chunk
+unlike part chunk k other = sym (same_other part chunk (λ p. other (ap (λ xs. get_or xs k 0) p)))
 
-pub loop-at-preserved : goal.loop-at-preserved
-loop-at-preserved c =
-    (omega arith, agree_on c.loop-at.invariant.1 (c.differs_16.ensures.agrees c.if-differs_16.false))
+-- all agree
+alike : (part chunk : List ℕ) (n : ℕ) → length part ≡ length chunk → length chunk ≤ n
+    → ((k : ℕ) → k < n → get_or part k 0 ≡ get_or chunk k 0) → true ≡ same part chunk
+alike part chunk n whole h each = sym (equal_same part chunk (ext_get_or 0 _ _ whole (λ k l. each k (omega arith))))
+
+pub returns-then-part-i : goal.returns-then-part-i
+returns-then-part-i c = rw (size c.args.from (length c.args.chunk.now)) at (unlike _ _ c.loop-i.i c.if-part-i.true)
 
 pub returns : goal.returns
 returns c =
-    let turn = c in
-    let start = turn in
-    let a = start.args in
-    stands_by a.bytes.now a.chunk.now a.from c.rest_stands.result start.requires
-    (λ e. agree_on turn.loop-at.invariant.1 (c.rest_stands.ensures.stands e)) c.rest_stands.ensures.differs
+    rw (size c.args.from (length c.args.chunk.now)) at (alike _ _ c.loop-i.i (search rules) c.loop-i-test.false c.loop-i.invariant)

@@ -1,11 +1,8 @@
--- `search::stands_at` meets its contract: each turn passes 16 bytes that agree, and then the rest is compared.
-use Prim.Native.Nat.{◌-◌, ◌≤◌}
-use lib.ListN.{length}
-use Rattle.search.specs.internal.Comparing.{Agree}
+-- `search::stands_at` meets its contract: each turn passes a byte that agrees.
+use Prim.Native.Nat.{ℕ, ◌<◌}
+use mathlib.Core.Path.{◌≡◌}
+use lib.ListN.{get_or}
 use Rattle.search.proofs.stands_at.Given as goal
 
-abbrev pub invariant-loop-at : goal.invariant-loop-at
-invariant-loop-at l = (l.at ≤ length l.chunk) × Agree l.bytes l.from l.chunk 0 l.at
-
-abbrev pub decreases-loop-at : goal.decreases-loop-at
-decreases-loop-at l = length l.chunk - l.at
+abbrev pub invariant-loop-i : goal.invariant-loop-i
+invariant-loop-i l = (k : ℕ) → k < l.i → get_or l.part k 0 ≡ get_or l.chunk k 0

@@ -7,10 +7,9 @@ use mathlib.Core.Path.{◌≡◌, refl, ap, sym, ◌∙◌}
 use mathlib.Core.Bool.{true, false}
 use mathlib.Core.List.{List}
 use lib.Dec.{eqb}
-use lib.ListN.{length, take, drop}
+use lib.ListN.{length}
 use borrow.Author.Tests.{eq-eqb, ne_eqb, lt-ltb, le-ltb}
 use Rattle.gear.specs.Gear.{chains, chain}
-use Rattle.directory.specs.Entry.{offset_at, length_at}
 use Rattle.store.specs.Memory.{chunk_at, contents}
 use Rattle.store.proofs.laws.Memory.{contents_length}
 use Rattle.store.proofs.laws.ChunkOfNumber.{entry_at}
@@ -20,8 +19,6 @@ use Rattle.index.specs.Grounds.{meets}
 
 -- `left` steps are left at the number `at`
 pub record Stepped (index : List ℕ) (held : List (List ℕ)) (c budget left at : ℕ) : Type 0 where
-  pub small : at ≤ none
-  pub most : left ≤ budget
   pub gives : along index held c left at ≡ along index held c budget (head_at index c)
 
 module _ {index : List ℕ} {held : List (List ℕ)} {c budget left at : ℕ} (h : Stepped index held c budget left at) where
@@ -50,23 +47,15 @@ module _ {index : List ℕ} {held : List (List ℕ)} {c budget left at : ℕ} (h
         step (suc l) q = rw (ne_eqb at none more, f)
 
     -- it leads to one
-    pub stepped_on : belongs held c at ≡ true → link_at index at ≤ none
-        → Stepped index held c budget (left - 1) (link_at index at)
+    pub stepped_on : belongs held c at ≡ true → Stepped index held c budget (left - 1) (link_at index at)
     unfolding along
-    stepped_on f s = record { small = s; most = omega (arith, h.most); gives = step left refl ∙ h.gives }
+    stepped_on f = record { gives = step left refl ∙ h.gives }
       where
         step : (l : ℕ) → left ≡ l → along index held c (left - 1) (link_at index at) ≡ along index held c l at
         step zero q = absurd (some q)
         step (suc l) q =
             let p : left - 1 ≡ l = omega arith in
             rw (ne_eqb at none more, f, p)
-
--- the chain of a stretch of the pool that is an entry's
-pub chain_of_entry : (pool directory : List ℕ) (i from size r : ℕ) → from ≡ offset_at directory i → size ≡ length_at directory i
-    → r ≡ chain (take (from + size - from) (drop from pool)) → r ≡ chain (chunk_at pool directory i)
-chain_of_entry pool directory i from size r e l h =
-    let m : from + size - from ≡ size = omega arith in
-    rw (← e, ← l) (rw m at h)
 
 -- a number past the chunks, one of another chain, and one of the chain
 module _ (pool directory : List ℕ) (n c at : ℕ) where

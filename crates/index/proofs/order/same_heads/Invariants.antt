@@ -1,11 +1,6 @@
 -- `index::order::same_heads` meets its contract.
-use Prim.Native.Nat.{◌-◌}
-use Rattle.gear.specs.Gear.{chains}
 use Rattle.index.proofs.laws.order.Comparing.{Compared}
 use Rattle.index.proofs.order.same_heads.Given as goal
 
 abbrev pub invariant-loop-chain : goal.invariant-loop-chain
 invariant-loop-chain l = Compared l.heads l.index l.same l.chain
-
-abbrev pub decreases-loop-chain : goal.decreases-loop-chain
-decreases-loop-chain l = chains - l.chain

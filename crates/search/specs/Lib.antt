@@ -1,2 +1,0 @@
--- Only contracts of this layer cite what is here.
-pub mod internal
