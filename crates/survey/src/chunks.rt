@@ -6,33 +6,22 @@ ghost use Rattle.survey.specs.internal.Snapshot.{snapshot};
 ghost use Rattle.survey.specs.internal.Surveyed.{surveyed};
 ghost use Rattle.survey.specs.internal.Begun.{Begun};
 
-use crate::Progress;
+use crate::{Lent, Progress};
 use cut_counts::CutCounts;
+use marks::Places;
 use refusal::Refusal;
 use store::{Head, JobPosition};
 
 // The ground on which a chunk of a job was refused, if one was, and what is counted of the chunks before it; the cuts are
-// the job's where none was.
+// the job's where none was. No `Result`, since the marks of the chunks before are settled where one is refused too.
 #[derive(Clone, Copy)]
 pub struct Surveyed {
-    pub refusal: Refusal,
+    pub refusal: Option<Refusal>,
     pub progress: Progress,
     pub cuts: CutCounts,
 }
 
-// A job's ground, and what is counted of its chunks and its cuts.
-fn outcome(refusal: Refusal, progress: Progress, cuts: CutCounts) -> Surveyed
-    ensures { result ≡ record { refusal = refusal; progress = progress; cuts = cuts } }
-{
-    Surveyed {
-        refusal,
-        progress,
-        cuts,
-    }
-}
-
-// Surveys a job: its chunks in order, each found in what the job has left, up to the first that is refused. Of its own it
-// keeps a head for each chain of the job's new chunks, and where the chunk of every 64th place starts.
+// Surveys a job: its chunks in order, each found in what the job has left, up to the first that is refused.
 pub fn survey(
     head: Head,
     pool: &[u8],
@@ -46,42 +35,38 @@ pub fn survey(
         ≡ surveyed head pool.now directory.now recipe.old job.now }
     ensures cuts { accepted result.refusal ≡ true → result.cuts ≡ cut_counts head.window job.now }
 {
-    let entries = gear::entries();
-    let mut heads = [marks::NO_PLACE; marks::OWN_CHAINS];
-    let mut starts = [marks::NO_PLACE; 1024];
-    let mut progress = crate::begun(head);
+    let lent = Lent {
+        head,
+        pool,
+        directory,
+        index,
+        job,
+    };
+    let mut places = Places::new();
+    let mut progress = Progress::begun(head);
     let mut cuts = cut_counts::NONE;
     let mut at = 0;
     while at < job.len() {
         let first = block_scan::first_chunk(head.window, &job[at..]);
-        cuts = cut_counts::with_chunk(cuts, first);
+        cuts = cuts.with_chunk(first);
         let end = at + first.length;
         let chunk = &job[at..end];
-        marks::note_start(
-            &mut starts,
-            progress.recipe_length as usize,
-            JobPosition(at as u32),
-        );
-        let step = crate::survey_chunk(
-            head,
-            progress,
-            pool,
-            directory,
-            index,
-            recipe,
-            &mut heads,
-            &starts,
-            job,
-            gear::sum_to(&entries, chunk, chunk.len()),
-            chunk,
-        );
-        let refusal = step.refusal;
-        let next = step.progress;
-        if !refusal::accepted(refusal) {
-            return outcome(refusal, next, cuts);
+        places.note_start(progress.recipe_length as usize, JobPosition(at as u32));
+        match lent.survey_chunk(progress, recipe, &mut places, chunk) {
+            Ok(next) => progress = next,
+            Err(ground) => {
+                return Surveyed {
+                    refusal: Some(ground),
+                    progress,
+                    cuts,
+                };
+            }
         }
-        progress = next;
         at = end;
     }
-    outcome(Refusal::Accepted, progress, cuts)
+    Surveyed {
+        refusal: None,
+        progress,
+        cuts,
+    }
 }

@@ -8,7 +8,7 @@ use mathlib.Core.Bool.{true, cond}
 use mathlib.Core.List.{List, [], ◌∷◌, ◌++◌}
 use lib.Dec.{ltb}
 use lib.ListN.{length, get_or, take, drop, set, length-set, take-append-drop}
-use lib.Seq.{take-suc-set, drop-set-lt, drop-drop, drop-cons, append_snoc, get_or-take, get_or-drop}
+use lib.Seq.{take-suc-set, drop-set-lt, drop-drop, drop-cons, append_snoc, get_or-take, get_or-drop, length-take-le}
 use borrow.Author.Tests.{lt-ltb, le-ltb}
 use Rattle.marks.specs.Marks.{code_of, repeat_base, first_base, settled_mark, settled}
 use Rattle.marks.specs.internal.Places.{NamesEarlier}
@@ -24,6 +24,15 @@ pub record Settling (recipe₀ : List ℕ) (used chunks : ℕ) (recipe : List �
   pub gives : take place recipe
       ++ (settled next (take place recipe) (take (used - place) (drop place recipe)) ++ drop used recipe)
       ≡ settled chunks [] (take used recipe₀) ++ drop used recipe₀
+
+-- the marks of the first places name earlier ones too
+pub names_first : {recipe : List ℕ} {n : ℕ} → n ≤ length recipe → NamesEarlier recipe n
+    → NamesEarlier (take n recipe) (length (take n recipe))
+names_first {recipe} {n} inside names = record { each = λ q l. each q (rw (length-take-le n recipe inside) at l) }
+  where
+    each : (q : ℕ) → q < n → repeat_base ≤ code_of (get_or (take n recipe) q 0) → code_of (get_or (take n recipe) q 0) < first_base
+        → code_of (get_or (take n recipe) q 0) - repeat_base < q
+    each q l = rw (get_or-take n recipe q 0 l) (names.each q l)
 
 -- nothing is done yet
 pub settling_none : (recipe : List ℕ) (used chunks : ℕ) → used ≤ length recipe → chunks + used < 2 ^ 32

@@ -29,6 +29,13 @@ pub record Heads (job recipe heads : List ℕ) (n : ℕ) : Type 0 where
 pub record Starts (recipe starts : List ℕ) (n : ℕ) : Type 0 where
   pub each : (k : ℕ) → k * start_stride < n → get_or starts k 0 ≡ sizes (take (k * start_stride) recipe)
 
+-- the first n places hold marks, by which a survey's own heads and starts go
+pub record Placed (job recipe heads starts : List ℕ) (n : ℕ) : Type 0 where
+  pub used : n ≤ length recipe
+  pub linked : Linked job recipe n
+  pub own_heads : Heads job recipe heads n
+  pub own_starts : Starts recipe starts n
+
 -- each of the first n marks that names a place names one before its own
 pub record NamesEarlier (recipe : List ℕ) (n : ℕ) : Type 0 where
   pub each : (q : ℕ) → q < n → repeat_base ≤ code_of (get_or recipe q 0) → code_of (get_or recipe q 0) < first_base

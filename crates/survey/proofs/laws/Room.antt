@@ -10,7 +10,7 @@ use borrow.Author.Tests.{ltb-false, leb-false, lt-ltb, le-leb}
 use Rattle.refusal.specs.Number.{accepted}
 use Rattle.refusal.specs.Grounds.{unless, first}
 use Rattle.refusal.specs.declared.Refusal.{Refusal}
-use Rattle.refusal.specs.declared.Refusal.TheVariants.{Accepted, Window, Unsound, JobLength, MemoryLimit, Head}
+use Rattle.refusal.specs.declared.Refusal.TheVariants.{Window, Unsound, JobLength, MemoryLimit, Head}
 use Rattle.refusal.specs.declared.Refusal.TheVariants.{RecipeFull, DirectoryFull, PoolFull, ChunkNumber, OutputShort}
 use Rattle.refusal.specs.declared.Refusal.TheVariants.{IndexLength, Index}
 use Rattle.chunker.specs.Chunks.{total}
@@ -18,6 +18,7 @@ use Rattle.store.specs.Contents.{has, gain, grown, added}
 use Rattle.store.proofs.laws.contents.Additions.{grown_added, length_grown, total_append}
 use Rattle.survey.specs.Walk.{Room, Walk, chunk_ground, walk}
 use Rattle.survey.proofs.laws.Walking.{Fits}
+use Rattle.std.specs.Prelude.{None, Option, Some}
 
 -- a store has as many bytes more as the new ones of the chunks that come
 pub total_grown : (held cs : List (List ℕ)) → total (grown held cs) ≡ total held + total (added held cs)
@@ -33,7 +34,7 @@ module _ (held : List (List ℕ)) (c : List ℕ) (cs : List (List ℕ)) where
 
 module _ (room : Room) (used : ℕ) (held : List (List ℕ)) (c : List ℕ) (cs : List (List ℕ)) where
   -- the ground of a chunk that is known, or not
-  abbrev ground : Bool → Refusal
+  abbrev ground : Bool → Option Refusal
   ground known =
       first
       (unless (ltb used room.places) RecipeFull
@@ -68,20 +69,20 @@ fits_accepted room used held (c ∷ cs) f =
     (record { places = omega (arith, f.places); entries = f.entries; bytes = f.bytes }))
 
 -- what a refusal says of so many numbers and a store: there are not so many places, entries or bytes
-abbrev pub Lacks : Room → ℕ → List (List ℕ) → Refusal → Type 0
-Lacks room count store Accepted = Unit {0}
-Lacks room count store Window = Unit {0}
-Lacks room count store Unsound = Unit {0}
-Lacks room count store JobLength = Unit {0}
-Lacks room count store MemoryLimit = Unit {0}
-Lacks room count store Head = Unit {0}
-Lacks room count store RecipeFull = room.places < count
-Lacks room count store DirectoryFull = room.entries < length store
-Lacks room count store PoolFull = room.bytes < total store
-Lacks room count store ChunkNumber = Unit {0}
-Lacks room count store OutputShort = Unit {0}
-Lacks room count store IndexLength = Unit {0}
-Lacks room count store Index = Unit {0}
+abbrev pub Lacks : Room → ℕ → List (List ℕ) → Option Refusal → Type 0
+Lacks room count store None = Unit {0}
+Lacks room count store (Some Window) = Unit {0}
+Lacks room count store (Some Unsound) = Unit {0}
+Lacks room count store (Some JobLength) = Unit {0}
+Lacks room count store (Some MemoryLimit) = Unit {0}
+Lacks room count store (Some Head) = Unit {0}
+Lacks room count store (Some RecipeFull) = room.places < count
+Lacks room count store (Some DirectoryFull) = room.entries < length store
+Lacks room count store (Some PoolFull) = room.bytes < total store
+Lacks room count store (Some ChunkNumber) = Unit {0}
+Lacks room count store (Some OutputShort) = Unit {0}
+Lacks room count store (Some IndexLength) = Unit {0}
+Lacks room count store (Some Index) = Unit {0}
 
 -- a refused chunk has no room, and so they all have none
 module _ (room : Room) (used : ℕ) (held : List (List ℕ)) (c : List ℕ) (cs : List (List ℕ)) where

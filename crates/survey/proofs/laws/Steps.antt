@@ -4,13 +4,14 @@ use mathlib.Core.Path.{◌≡◌}
 use mathlib.Core.List.{List}
 use lib.ListN.{length, set}
 use borrow.Author.Tests.{le-leb, lt-leb, lt-ltb, le-ltb}
-use Rattle.refusal.specs.declared.Refusal.TheVariants.{Accepted, RecipeFull, DirectoryFull, PoolFull}
+use Rattle.refusal.specs.declared.Refusal.TheVariants.{RecipeFull, DirectoryFull, PoolFull}
 use Rattle.directory.specs.Entry.{entries}
 use Rattle.store.specs.declared.Head.{Head}
 use Rattle.marks.specs.Marks.{mark_of, repeat_code, first_code, own_chain, last_of}
 use Rattle.survey.specs.declared.Progress.{Progress}
 use Rattle.survey.specs.internal.Snapshot.{Snapshot, snapshot, Outcome, ends, with_repeated, with_new}
 use Rattle.survey.specs.internal.Snapshot.{number_in, firsts_in, place_in, chunk_ground, after_chunk, chunk_outcome, heads_after}
+use Rattle.std.specs.Prelude.{None, Some}
 
 module _ (head : Head) (pool directory job : List ℕ) (f : Snapshot) (heads c : List ℕ) where
   -- what the survey comes to, with the heads that it keeps of its own
@@ -19,9 +20,9 @@ module _ (head : Head) (pool directory job : List ℕ) (f : Snapshot) (heads c :
 
   -- the counts, and a code at the next place
   abbrev marked : Progress → ℕ → Outcome
-  marked p code = ends Accepted (snapshot p (set f.recipe f.progress.recipe_length (mark_of code (length c))))
+  marked p code = ends None (snapshot p (set f.recipe f.progress.recipe_length (mark_of code (length c))))
 
-  pub recipe_full : length f.recipe ≤ f.progress.recipe_length → Comes (ends RecipeFull f) heads
+  pub recipe_full : length f.recipe ≤ f.progress.recipe_length → Comes (ends (Some RecipeFull) f) heads
   unfolding chunk_outcome chunk_ground heads_after
   recipe_full full = (rw (le-ltb _ _ full), rw (le-ltb _ _ full))
 
@@ -38,13 +39,13 @@ module _ (head : Head) (pool directory job : List ℕ) (f : Snapshot) (heads c :
       repeats met = (rw (lt-ltb _ _ room, le-ltb _ _ lacks, lt-ltb _ _ met), rw (lt-ltb _ _ room, le-ltb _ _ lacks, lt-ltb _ _ met))
 
       module _ (new : f.progress.recipe_length ≤ place_in head pool directory job f c) where
-        pub directory_full : entries directory ≤ f.progress.chunks.0 → Comes (ends DirectoryFull f) heads
+        pub directory_full : entries directory ≤ f.progress.chunks.0 → Comes (ends (Some DirectoryFull) f) heads
         unfolding chunk_outcome chunk_ground heads_after
         directory_full full =
             (rw (lt-ltb _ _ room, le-ltb _ _ lacks, le-ltb _ _ new, le-ltb _ _ full), rw (lt-ltb _ _ room, le-ltb _ _ lacks, le-ltb _ _ new, le-ltb _ _ full))
 
         module _ (entry : f.progress.chunks.0 < entries directory) where
-          pub pool_full : length pool < f.progress.filled.0 + length c → Comes (ends PoolFull f) heads
+          pub pool_full : length pool < f.progress.filled.0 + length c → Comes (ends (Some PoolFull) f) heads
           unfolding chunk_outcome chunk_ground heads_after
           pool_full full =
               (rw (lt-ltb _ _ room, le-ltb _ _ lacks, le-ltb _ _ new, lt-ltb _ _ entry, lt-leb _ _ full), rw (lt-ltb _ _ room, le-ltb _ _ lacks, le-ltb _ _ new, lt-ltb _ _ entry, lt-leb _ _ full))

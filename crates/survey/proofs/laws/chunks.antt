@@ -1,2 +1,3 @@
 pub mod OneChunk
 pub mod Surveying
+pub mod Turn

@@ -1,9 +1,9 @@
 -- A survey under way, chunk by chunk: what it has counted, and the recipe, whose places hold marks.
-use Rattle.std.specs.Prelude.{ℕ, ◌+◌, Bool, cond, not, ◌&&◌, ◌||◌, List, [], ◌∷◌, leb, ltb, length, set, take}
+use Rattle.std.specs.Prelude.{ℕ, ◌+◌, Bool, cond, not, ◌&&◌, ◌||◌, List, [], ◌∷◌, leb, ltb, length, set, take, None, Option, Some, Result, Ok, Err}
 use Rattle.refusal.specs.Number.{accepted}
 use Rattle.refusal.specs.Grounds.{unless, first}
 use Rattle.refusal.specs.declared.Refusal.{Refusal}
-use Rattle.refusal.specs.declared.Refusal.TheVariants.{Accepted, RecipeFull, DirectoryFull, PoolFull}
+use Rattle.refusal.specs.declared.Refusal.TheVariants.{RecipeFull, DirectoryFull, PoolFull}
 use Rattle.directory.specs.Entry.{entries}
 use Rattle.store.specs.declared.Head.{Head}
 use Rattle.store.specs.Contents.{number}
@@ -53,11 +53,16 @@ with_new p size =
 
 -- the ground that ended a survey, if any, and what it leaves
 pub record Outcome : Type 0 where
-  pub refusal : Refusal
+  pub refusal : Option Refusal
   pub snapshot : Snapshot
 
-abbrev pub ends : Refusal → Snapshot → Outcome
+abbrev pub ends : Option Refusal → Snapshot → Outcome
 ends refusal f = record { refusal = refusal; snapshot = f }
+
+-- what the answer to a chunk tells: the counts with it, or the ground on which it is refused, and then the counts stay
+abbrev pub chunk_told : Result Progress Refusal → Progress → List ℕ → Outcome
+chunk_told (Ok next) before recipe = ends None (snapshot next recipe)
+chunk_told (Err refusal) before recipe = ends (Some refusal) (snapshot before recipe)
 
 module _ (head : Head) (pool directory job : List ℕ) where
   -- the number that a chunk has in the store as the job finds it, or the number of its chunks
@@ -81,7 +86,7 @@ module _ (head : Head) (pool directory job : List ℕ) where
   met f c = ltb (place_in f c) f.progress.recipe_length
 
   -- the grounds 6 to 8
-  unfoldable pub chunk_ground : Snapshot → List ℕ → Refusal
+  unfoldable pub chunk_ground : Snapshot → List ℕ → Option Refusal
   chunk_ground f c =
       let known = stored c || met f c in
       first
@@ -105,7 +110,7 @@ module _ (head : Head) (pool directory job : List ℕ) where
 
   -- one chunk: what it leaves, or its ground and nothing written
   unfoldable pub chunk_outcome : Snapshot → List ℕ → Outcome
-  chunk_outcome f c = cond (accepted (chunk_ground f c)) (ends Accepted (after_chunk f c)) (ends (chunk_ground f c) f)
+  chunk_outcome f c = cond (accepted (chunk_ground f c)) (ends None (after_chunk f c)) (ends (chunk_ground f c) f)
 
   -- the survey's own heads after it: a new chunk's place becomes the head of its chain
   unfoldable pub heads_after : Snapshot → List ℕ → List ℕ → List ℕ

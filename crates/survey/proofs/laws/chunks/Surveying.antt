@@ -11,8 +11,7 @@ use mathlib.Core.List.{List, [], ◌∷◌, ◌++◌, append_assoc, append-nil}
 use lib.ListN.{length, take, drop, set, replicate, length-replicate, length-set, length-append, length-take, length-drop, drop_of_length-le}
 use lib.Seq.{drop-drop}
 use Rattle.refusal.specs.Number.{accepted}
-use Rattle.refusal.specs.declared.Refusal.TheVariants.{Accepted}
-use Rattle.gear.specs.Gear.{chains, sum}
+use Rattle.gear.specs.Gear.{chains}
 use Rattle.chunker.specs.Bytes.{Bytes}
 use Rattle.chunker.specs.Chunks.{chunks, total}
 use Rattle.chunker.proofs.laws.NextChunk.{NextChunk, no_chunks}
@@ -25,7 +24,7 @@ use Rattle.store.proofs.laws.grounds.Fitting.{fits_facts, entries_in_lem}
 use Rattle.store.proofs.laws.contents.Growth.{grown_append}
 use Rattle.store.proofs.laws.contents.Additions.{length_grown, total_both, total_append}
 use Rattle.marks.specs.Marks.{no_place, own_chains, own_chain, marks}
-use Rattle.marks.specs.internal.Places.{start_stride, Heads, Starts}
+use Rattle.marks.specs.internal.Places.{start_stride, Heads, Starts, Placed}
 use Rattle.marks.proofs.laws.Marking.{length_marks, Places, next_start}
 use Rattle.marks.proofs.laws.Appearing.{linked}
 use Rattle.marks.proofs.laws.Keeping.{starts_with, heads_none, starts_none, starts_noted, starts_more}
@@ -34,9 +33,10 @@ use Rattle.survey.specs.Walk as walk
 use Rattle.survey.specs.internal.Snapshot.{Snapshot, snapshot, Outcome, ends, begun_at, stored, met, chunk_ground, after_chunk, chunk_outcome, heads_after}
 use Rattle.survey.specs.internal.Surveyed.{survey_after, surveyed}
 use Rattle.survey.specs.internal.Begun.{Begun}
-use Rattle.survey.specs.internal.Ready.{Lent, Marked, Next}
+use Rattle.survey.specs.internal.Ready.{InOrder, Counted, Next}
 use Rattle.survey.proofs.laws.Walking.{walk_on, walk_stops, chunk_fits}
 use Rattle.survey.proofs.laws.chunks.OneChunk.{noted_length, counted, full, places, ground_in, after_in, heads_in}
+use Rattle.std.specs.Prelude.{None}
 
 -- the chunks of the job before a position are surveyed; heads and starts are the survey's own
 pub record Surveying (head : Head) (pool directory index recipe job : List ℕ) (f : Snapshot) (heads starts : List ℕ) (at : ℕ)
@@ -65,6 +65,20 @@ pub surveying_same : {head : Head} {pool directory index recipe job : List ℕ} 
     → Surveying head pool directory index recipe job f heads starts at
     → Surveying head pool directory index recipe job g heads' starts' at
 surveying_same e h t s = rw (← e, ← h, ← t) s
+
+-- what is lent and only read is in order
+pub in_order : {head : Head} {pool directory index recipe job : List ℕ}
+    → Begun head pool directory index recipe job → InOrder head pool directory index job
+in_order {head} {pool} {directory} {index} b =
+    let facts = fits_facts head pool directory b.fitting in
+    record {
+      entries = entries_in_lem head pool directory b.fitting;
+      pool_length = b.pool_length;
+      directory_length = b.directory_length;
+      index_length = omega (arith, length_fits directory index b.index_length, facts.counted);
+      indexed = b.indexed;
+      job_length = b.job_length;
+    }
 
 -- nothing is surveyed yet
 pub surveying_starts : (head : Head) (pool directory index recipe job : List ℕ)
@@ -117,13 +131,13 @@ module _ {head : Head} {pool directory index recipe job : List ℕ} {f : Snapsho
   store = grown held s.done
 
   -- no chunk is left
-  pub surveying_ends : length job ≤ at → ends Accepted f ≡ surveyed head pool directory recipe job
+  pub surveying_ends : length job ≤ at → ends None f ≡ surveyed head pool directory recipe job
   unfolding surveyed walk.walk
   surveying_ends end =
       let none : chunks head.window (drop at job) ≡ [] = rw (drop_of_length-le job end) (no_chunks head.window) in
-      let all : job_walk head pool directory recipe job ≡ record { refusal = Accepted; passed = s.done } =
+      let all : job_walk head pool directory recipe job ≡ record { refusal = None; passed = s.done } =
       rw (none, append-nil s.done) at s.gives in
-      rw all (ap (ends Accepted) s.state)
+      rw all (ap (ends None) s.state)
 
   module _ (n : ℕ) (next : NextChunk head.window (drop at job) n) where
     -- the next chunk, and those after it
@@ -153,25 +167,18 @@ module _ {head : Head} {pool directory index recipe job : List ℕ} {f : Snapsho
     long = noted_length recipe ms (rw (length_marks held [] s.done) s.used)
 
     -- it may be surveyed
-    pub lent : Lent head pool directory index job f
-    lent =
+    pub counted_in : Counted pool f
+    counted_in =
         let b = s.begun in
-        let facts = fits_facts head pool directory b.fitting in
         rw s.state
         (record {
-          entries = entries_in_lem head pool directory b.fitting;
-          pool_length = b.pool_length;
-          directory_length = b.directory_length;
-          index_length = omega (arith, length_fits directory index b.index_length, facts.counted);
-          indexed = b.indexed;
           recipe_length = omega (arith, long, b.recipe_length);
-          job_length = b.job_length;
           filled = omega (arith, full head pool directory recipe job b s.done, s.in_pool);
           chunks = omega (arith, counted head pool directory recipe job b, length_grown held s.done, s.listed, b.directory_length);
         })
 
-    pub marked : Marked job f heads (starts_with starts f.progress.recipe_length at)
-    marked =
+    pub placed : Placed job f.recipe heads (starts_with starts f.progress.recipe_length at) f.progress.recipe_length
+    placed =
         rw s.state
         (record {
           used = omega (arith, long, s.used);
@@ -180,14 +187,13 @@ module _ {head : Head} {pool directory index recipe job : List ℕ} {f : Snapsho
           own_starts = starts_noted (noted recipe ms) starts (length s.done) at s.own_starts;
         })
 
-    pub next_in : (gear : ℕ) → gear ≡ sum chunk → Next job f gear chunk
-    next_in gear e =
+    pub next_in : Next job f chunk
+    next_in =
         let start = next_start marked_places in
         rw s.state
         (record {
           some = start.some;
           small = start.small;
-          summed = e;
           counts = omega (arith, total_both held s.done, start.within);
         })
 
