@@ -11,17 +11,14 @@ pub extern "C" fn hirunvel_chunk_count(window: u32, job: &[u8]) -> u64
     ensures { result ≡ chunk_count window job.now }
 {
     let opened = chunker::open(window);
-    let refusal = opened.refusal;
-    if !refusal::accepted(refusal) {
+    if opened.refusal.is_some() {
         return 0;
     }
-    let scanner = opened.scanner;
     let mut n: u64 = 0;
     let mut rest = job;
-    while rest.len() != 0 {
-        let fed = chunker::feed(scanner, rest);
-        let to = fed.consumed;
-        rest = &rest[to..];
+    while !rest.is_empty() {
+        let fed = chunker::feed(opened.scanner, rest);
+        rest = &rest[fed.consumed..];
         n += 1;
     }
     n

@@ -1,3 +1,3 @@
--- theorems/ has what a look tells; laws/scanning leads from the chunker's answers to the definitions over numbers.
+-- theorems/ has what a look tells; laws/Told says when an answer is accepted, and laws/scanning leads from the chunker's answers to the definitions over numbers.
 pub mod laws
 pub mod theorems

@@ -1,1 +1,2 @@
 pub mod scanning
+pub mod Told

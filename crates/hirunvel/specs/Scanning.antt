@@ -1,5 +1,5 @@
 -- The scanner's functions over numbers.
-use Rattle.std.specs.Prelude.{ℕ, cond, ◌&&◌, List, [], ◌∷◌, leb, get_or}
+use Rattle.std.specs.Prelude.{ℕ, cond, ◌&&◌, List, [], ◌∷◌, leb, get_or, Option}
 use Rattle.refusal.specs.Number.{number_of, accepted}
 use Rattle.refusal.specs.Grounds.{unless, first}
 use Rattle.refusal.specs.declared.Refusal.{Refusal}
@@ -9,7 +9,7 @@ use Rattle.chunker.specs.Answers.{opened, fed, finished}
 use Rattle.numbers.specs.Scanning.{numbers_of, scanner_of, told}
 
 -- "feeding and finishing 1 and 2": the first that holds of four numbers; "its value, a byte"
-unfoldable pub numbers_ground : List ℕ → Refusal
+unfoldable pub numbers_ground : List ℕ → Option Refusal
 numbers_ground n =
     first (window_ground (get_or n 0 0) ∷ unless (leb (get_or n 3 0) 255 && sound (scanner_of n)) Unsound ∷ [])
 

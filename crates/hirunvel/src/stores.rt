@@ -2,16 +2,16 @@
 ghost use Rattle.std.specs.Prelude.{◌≡◌};
 ghost use Rattle.hirunvel.specs.Storing.{store_opened, store_quoted, store_taken, store_looked};
 
-use store::ChunkNumber;
+use numbers::{Counts, HeadNumbers};
+use store::{ChunkNumber, Head};
 
 // Opens a store. Refused by ground 1, with all zeros.
 pub fn hirunvel_store_open(window: u32, head: &mut [u32; 3]) -> u32
     ensures { record { refusal = result; head = head.new } ≡ store_opened window }
 {
     let answer = store::open(window);
-    let refusal = answer.refusal;
-    *head = numbers::of_head(answer.head);
-    numbers::of_refusal(refusal)
+    HeadNumbers(*head) = answer.head.into();
+    numbers::of_refusal(answer.refusal)
 }
 
 // Quotes a job: tells the recipe's length, the new and the repeated bytes, the cuts of each kind, and the saving, and writes
@@ -34,11 +34,11 @@ pub fn hirunvel_store_quote(
     }
         ≡ store_quoted head.now pool.now directory.now index.now recipe.old job.now }
 {
-    let answer = admission::quote(numbers::head_of(*head), pool, directory, index, recipe, job);
-    let refusal = answer.refusal;
-    *counts = numbers::of_counts(answer);
+    let head = Head::from(HeadNumbers(*head));
+    let answer = admission::quote(head, pool, directory, index, recipe, job);
+    Counts(*counts) = answer.into();
     *saving = [answer.saving];
-    numbers::of_refusal(refusal)
+    numbers::of_refusal(answer.refusal)
 }
 
 // Takes a job: tells what its quote tells, and stores its new chunks. Refused by grounds 1, 3 to 8, 11 and 12, with head,
@@ -65,15 +65,15 @@ pub fn hirunvel_store_take(
     }
         ≡ store_taken head.old pool.old directory.old index.old recipe.old job.now }
 {
-    let answer = admission::take(numbers::head_of(*head), pool, directory, index, recipe, job);
+    let before = Head::from(HeadNumbers(*head));
+    let answer = admission::take(before, pool, directory, index, recipe, job);
     let quoted = answer.quoted;
-    let refusal = quoted.refusal;
-    *counts = numbers::of_counts(quoted);
+    Counts(*counts) = quoted.into();
     *saving = [quoted.saving];
-    if refusal::accepted(refusal) {
-        *head = numbers::of_head(answer.head);
+    if quoted.refusal.is_none() {
+        HeadNumbers(*head) = answer.head.into();
     }
-    numbers::of_refusal(refusal)
+    numbers::of_refusal(quoted.refusal)
 }
 
 // Tells a chunk's offset in the pool and its length. Refused by grounds 1, 4, 5 and 9, with zeros
@@ -88,18 +88,13 @@ pub fn hirunvel_store_look(
     ensures { record { refusal = result; stretch = stretch.new }
         ≡ store_looked head.now pool.now directory.now number }
 {
-    let refusal = store::look_ground(
-        numbers::head_of(*head),
-        pool,
-        directory,
-        ChunkNumber(number),
-    );
-    if !refusal::accepted(refusal) {
+    let head = Head::from(HeadNumbers(*head));
+    let number = ChunkNumber(number);
+    if let Err(ground) = store::look_ground(head, pool, directory, number) {
         *stretch = [0, 0];
-        return numbers::of_refusal(refusal);
+        return numbers::of_refusal(Some(ground));
     }
-    let found = store::stretch_of(directory, ChunkNumber(number));
-    let offset = found.offset;
-    *stretch = [offset.0 as u64, found.length as u64];
-    numbers::of_refusal(refusal)
+    let found = store::stretch_of(directory, number);
+    *stretch = [u64::from(found.offset.0), u64::from(found.length)];
+    numbers::of_refusal(None)
 }

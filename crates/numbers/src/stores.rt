@@ -6,42 +6,49 @@ use admission::Quoted;
 use store::{ChunkNumber, Head, PoolOffset};
 
 // A head's window, chunks and filled.
-pub type HeadNumbers = [u32; 3];
+#[derive(Clone, Copy)]
+pub struct HeadNumbers(pub [u32; 3]);
 
 // A quote's recipe length, new bytes and repeated bytes, and its cuts of low, printable and high values.
-pub type Counts = [u64; 6];
+#[derive(Clone, Copy)]
+pub struct Counts(pub [u64; 6]);
 
 // The head of three numbers.
-pub fn head_of(numbers: HeadNumbers) -> Head
-    ensures { result ≡ head_of numbers }
-{
-    Head {
-        window: numbers[0],
-        chunks: ChunkNumber(numbers[1]),
-        filled: PoolOffset(numbers[2]),
+impl From<HeadNumbers> for Head {
+    ghost from_gives = { λ numbers head. head ≡ head_of numbers.0 };
+
+    fn from(numbers: HeadNumbers) -> Head {
+        let [window, chunks, filled] = numbers.0;
+        Head {
+            window,
+            chunks: ChunkNumber(chunks),
+            filled: PoolOffset(filled),
+        }
     }
 }
 
 // The numbers of a head.
-pub fn of_head(head: Head) -> HeadNumbers
-    ensures { result ≡ head_numbers head }
-{
-    let chunks = head.chunks;
-    let filled = head.filled;
-    [head.window, chunks.0, filled.0]
+impl From<Head> for HeadNumbers {
+    ghost from_gives = { λ head numbers. numbers.0 ≡ head_numbers head };
+
+    fn from(head: Head) -> HeadNumbers {
+        HeadNumbers([head.window, head.chunks.0, head.filled.0])
+    }
 }
 
 // The counts of a quote.
-pub fn of_counts(answer: Quoted) -> Counts
-    ensures { result ≡ counts_of answer }
-{
-    let cuts = answer.cuts;
-    [
-        answer.recipe_length as u64,
-        answer.new_bytes as u64,
-        answer.repeated_bytes as u64,
-        cuts.low as u64,
-        cuts.printable as u64,
-        cuts.high as u64,
-    ]
+impl From<Quoted> for Counts {
+    ghost from_gives = { λ quoted counts. counts.0 ≡ counts_of quoted };
+
+    fn from(quoted: Quoted) -> Counts {
+        let cuts = quoted.cuts;
+        Counts([
+            u64::from(quoted.recipe_length),
+            u64::from(quoted.new_bytes),
+            u64::from(quoted.repeated_bytes),
+            u64::from(cuts.low),
+            u64::from(cuts.printable),
+            u64::from(cuts.high),
+        ])
+    }
 }

@@ -17,9 +17,10 @@ use Rattle.admission.proofs.theorems.QuoteAndTake.{same_quotation}
 use Rattle.promises.specs.History as history
 use Rattle.promises.specs.History.{Event, quoting, taking, reading, State, start, holds, quote_in, take_in, event_at, AllBytes}
 use Rattle.promises.proofs.laws.Events.{Fitting, grows, start_fits}
+use Rattle.std.specs.Prelude.{Option}
 
 -- the first of the grounds 1 and 3 to 5 that holds
-unfoldable pub ground : State → List ℕ → List ℕ → Refusal
+unfoldable pub ground : State → List ℕ → List ℕ → Option Refusal
 ground s job recipe =
     first
     (window_ground s.head.window

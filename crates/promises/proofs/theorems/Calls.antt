@@ -7,6 +7,7 @@ use mathlib.Core.List.{List, [], ◌∷◌, ◌++◌}
 use lib.ListN.{length}
 use borrow.Author.Tests.{eq-eqb}
 use Rattle.refusal.specs.Number.{number_of, accepted}
+use Rattle.refusal.proofs.laws.NoGround.{accepted_number}
 use Rattle.chunker.specs.Scanner.{window_allowed}
 use Rattle.chunker.specs.KeptMaximum.{KeptMaximum}
 use Rattle.cut_counts.specs.declared.CutCounts.{CutCounts}
@@ -111,21 +112,22 @@ module _ (w : ℕ) (allowed : (store_opened w).refusal ≡ 0) (pool directory : 
       → (q : Quotation) × TakenAt s calls i job q × (c ≡ numbers_of q)
   taken_at {i} {job} {c} a =
       let t = takes_called (subst (λ n. TakesCall n (event_at calls i) job c) (calls_history i) a.stands) in
-      (t.0, record { stands = t.1; accepted = eq-eqb _ 0 (ap (λ x. x.refusal) (sym t.2) ∙ a.accepted) }, t.2)
+      (t.0, record { stands = t.1; accepted = accepted_number _ ∙ eq-eqb _ 0 (ap (λ x. x.refusal) (sym t.2) ∙ a.accepted) }, t.2)
 
   -- one that quotes or takes it and returns 0 is a quote or a take that is not refused
   asked_at : {j : ℕ} {job : List ℕ} {c : StoreQuotation} → AskedCall m calls j job c
       → (q : Quotation) × AskedAt s calls j job q × (c ≡ numbers_of q)
   asked_at {j} {job} {c} a =
       let t = asks_called (subst (λ n. AsksCall n (event_at calls j) job c) (calls_history j) a.stands) in
-      (t.0, record { stands = t.1; accepted = eq-eqb _ 0 (ap (λ x. x.refusal) (sym t.2) ∙ a.accepted) }, t.2)
+      (t.0, record { stands = t.1; accepted = accepted_number _ ∙ eq-eqb _ 0 (ap (λ x. x.refusal) (sym t.2) ∙ a.accepted) }, t.2)
 
   -- the chunks of an event by the call's result
   call_chunks : (t : State) (e : Event)
       → chunks_of w (memory_of t) e ≡ cond (history.accepts t e) (history.chunks_of w e) []
   unfolding store_taken
   call_chunks t (quoting job recipe) = refl
-  call_chunks t (taking job recipe) = refl
+  call_chunks t (taking job recipe) =
+      ap (λ b. cond b (history.chunks_of w (taking job recipe)) []) (sym (accepted_number (history.take_in t job recipe).answer.quoted.refusal))
   call_chunks t reading = refl
 
   -- the jobs that earlier calls took are those accepted before

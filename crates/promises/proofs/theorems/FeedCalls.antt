@@ -10,9 +10,9 @@ use lib.ListN.{length, get_or, drop}
 use borrow.Author.Tests.{eq-eqb, le-leb}
 use Rattle.refusal.specs.Number.{number_of, accepted}
 use Rattle.refusal.specs.Grounds.{unless}
-use Rattle.refusal.specs.declared.Refusal.TheVariants.{Accepted, Window, Unsound}
+use Rattle.refusal.specs.declared.Refusal.TheVariants.{Window, Unsound}
 use Rattle.refusal.proofs.laws.Grounds.{none_holds, passed}
-use Rattle.refusal.proofs.laws.NoGround.{no_ground}
+use Rattle.refusal.proofs.laws.NoGround.{no_ground, accepted_number}
 use Rattle.scan.specs.declared.Scanner.{Scanner}
 use Rattle.scan.specs.declared.Fed.{Fed}
 use Rattle.chunker.specs.Bytes.{Bytes}
@@ -29,22 +29,23 @@ use Rattle.chunker.proofs.theorems.EverySplitting.{every_splitting, only_splitti
 use Rattle.numbers.specs.Scanning.{numbers_of, scanner_of, told}
 use Rattle.hirunvel.specs.Scanning.{numbers_ground, scanner_opened, scanner_fed, scanner_finished}
 use Rattle.promises.specs.FeedCalls.{FeedCalls, cutting, passing, finishing}
+use Rattle.std.specs.Prelude.{None}
 
 -- where no ground holds of four numbers, none holds of their scanner
-scanner_accepted : (n : List ℕ) → accepted (numbers_ground n) ≡ true → scanner_ground (scanner_of n) ≡ Accepted
+scanner_accepted : (n : List ℕ) → accepted (numbers_ground n) ≡ true → scanner_ground (scanner_of n) ≡ None
 unfolding numbers_ground scanner_ground
 scanner_accepted n h =
     let none = none_holds
     (window_ground (get_or n 0 0) ∷ unless (leb (get_or n 3 0) 255 && sound (scanner_of n)) Unsound ∷ [])
     h in
-    let both = passed (leb (get_or n 3 0) 255 && sound (scanner_of n)) Unsound refl none.1.0 in
+    let both = passed (leb (get_or n 3 0) 255 && sound (scanner_of n)) Unsound none.1.0 in
     let tests = (and-eq-true_iff (leb (get_or n 3 0) 255) (sound (scanner_of n))).0 both in
-    let window = passed (window_allowed (get_or n 0 0)) Window refl none.0 in
+    let window = passed (window_allowed (get_or n 0 0)) Window none.0 in
     rw (window, tests.1)
 
 -- a call of hirunvel_scanner_feed that returns 0 is a feed
 record FeedCall (n part : List ℕ) : Type 0 where
-  refusal : (fed (scanner_of n) part).refusal ≡ Accepted
+  refusal : (fed (scanner_of n) part).refusal ≡ None
   scanner : (scanner_fed n part).scanner ≡ numbers_of (fed (scanner_of n) part).scanner
   tells : (scanner_fed n part).fed ≡ told (fed (scanner_of n) part)
 
@@ -59,7 +60,7 @@ feed_called n part r = by_test (accepted (numbers_ground n)) refl
           scanner = rw e;
           tells = rw e;
         }
-    by_test false e = absurd (false≢true (sym e ∙ eq-eqb (number_of (numbers_ground n)) 0 (rw e at r)))
+    by_test false e = absurd (false≢true (sym e ∙ accepted_number (numbers_ground n) ∙ eq-eqb (number_of (numbers_ground n)) 0 (rw e at r)))
 
 -- a cut is told by 1, and none by 0
 record Tells (f : Fed) (n m : ℕ) (p : Peak) : Type 0 where
@@ -85,14 +86,14 @@ no_cut false e = refl
 
 -- a call of hirunvel_scanner_finish that returns 0 is a finish
 finish_called : (n : List ℕ) → (scanner_finished n).refusal ≡ 0
-    → ((finished (scanner_of n)).refusal ≡ Accepted) × ((scanner_finished n).count ≡ (finished (scanner_of n)).count)
+    → ((finished (scanner_of n)).refusal ≡ None) × ((scanner_finished n).count ≡ (finished (scanner_of n)).count)
 unfolding scanner_finished finished
 finish_called n r = by_test (accepted (numbers_ground n)) refl
   where
     by_test : (t : Bool) → accepted (numbers_ground n) ≡ t
-        → ((finished (scanner_of n)).refusal ≡ Accepted) × ((scanner_finished n).count ≡ (finished (scanner_of n)).count)
+        → ((finished (scanner_of n)).refusal ≡ None) × ((scanner_finished n).count ≡ (finished (scanner_of n)).count)
     by_test true e = (rw (scanner_accepted n e), rw e)
-    by_test false e = absurd (false≢true (sym e ∙ eq-eqb (number_of (numbers_ground n)) 0 (rw e at r)))
+    by_test false e = absurd (false≢true (sym e ∙ accepted_number (numbers_ground n) ∙ eq-eqb (number_of (numbers_ground n)) 0 (rw e at r)))
 
 -- the calls are a feeding
 pub calls_feeding : {n since : List ℕ} {parts cs : List (List ℕ)} {ps : List Peak} → FeedCalls n since parts cs ps
@@ -120,16 +121,16 @@ unfolding numbers_ground scanner_ground
 numbers_of_lem s h = rw (le-leb s.value 255 (omega arith))
 
 -- feeding bytes leaves a byte for the value
-value_byte : (s : Scanner) (part : List ℕ) → s.value < 256 → Bytes part → scanner_ground s ≡ Accepted
+value_byte : (s : Scanner) (part : List ℕ) → s.value < 256 → Bytes part → scanner_ground s ≡ None
     → (fed s part).scanner.value < 256
 value_byte s part h k e = rw (fed_accepted s part e) (scan_sound s 0 part k (ground_sound s h e)).byte
 
 -- a finish that is accepted has an accepted scanner
-finish_accepts : (s : Scanner) → (finished s).refusal ≡ Accepted → scanner_ground s ≡ Accepted
+finish_accepts : (s : Scanner) → (finished s).refusal ≡ None → scanner_ground s ≡ None
 unfolding finished
 finish_accepts s e = by_test (accepted (scanner_ground s)) refl
   where
-    by_test : (t : Bool) → accepted (scanner_ground s) ≡ t → scanner_ground s ≡ Accepted
+    by_test : (t : Bool) → accepted (scanner_ground s) ≡ t → scanner_ground s ≡ None
     by_test true a = no_ground _ a
     by_test false a = rw a at e
 

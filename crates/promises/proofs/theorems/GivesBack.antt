@@ -5,7 +5,6 @@ use mathlib.Core.Bool.{true}
 use mathlib.Core.List.{List, [], ◌∷◌, ◌++◌, map}
 use borrow.Author.Tests.{le-leb, lt-ltb}
 use lib.ListN.{length, length-map}
-use Rattle.refusal.specs.declared.Refusal.TheVariants.{Accepted}
 use Rattle.chunker.specs.Splitting.{joined}
 use Rattle.chunker.specs.Chunks.{chunks}
 use Rattle.chunker.proofs.theorems.ChunkSizes.{chunks_joined}
@@ -22,6 +21,7 @@ use Rattle.rebuild.specs.Rebuilding.{rebuilt_bytes, rebuild_ground, rebuilt}
 use Rattle.promises.specs.GivesBack.{GivesBack}
 use Rattle.rebuild.proofs.laws.grounds.RebuildGround.{all_pass}
 use Rattle.store.specs.Limits.{recipe_limit}
+use Rattle.std.specs.Prelude.{None}
 
 module _ (pool directory : List ℕ) (n : ℕ) where
   -- the numbers of chunks that a store holds name those chunks
@@ -55,7 +55,7 @@ memory_allowed_same pool directory pool' directory' p d h = rw (p, d) h
 
 -- a rebuilding on which no ground holds
 rebuilt_accepted : (head : Head) (pool directory recipe output : List ℕ)
-    → rebuild_ground head pool directory recipe output ≡ Accepted
+    → rebuild_ground head pool directory recipe output ≡ None
     → (job : List ℕ) → rebuilt_bytes pool directory recipe ≡ job
     → GivesBack job output (rebuilt head pool directory recipe output)
 unfolding rebuilt

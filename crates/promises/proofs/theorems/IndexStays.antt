@@ -33,6 +33,7 @@ use Rattle.admission.proofs.theorems.QuoteAndTake.{same_refusal}
 use Rattle.promises.specs.History.{Event, State, start, holds, quote_in, take_in, before, AllBytes}
 use Rattle.promises.specs.IndexStays.{NotIndex, IndexStays}
 use Rattle.promises.proofs.laws.Events.{Fitting, grows, start_fits, index_in_order}
+use Rattle.std.specs.Prelude.{Option}
 
 -- the grounds of a chunk by their tests
 tests_most : (place entry bytes : Bool)
@@ -82,7 +83,7 @@ early_most true true true true false = omega arith
 early_most true true true true true = omega arith
 
 module _ (s : State) (f : Fitting s) (job recipe : List ℕ) where
-  abbrev ground : Refusal
+  abbrev ground : Option Refusal
   ground = admission_ground s.head s.pool s.directory s.index recipe job
 
   ground_most : number_of ground ≤ 5

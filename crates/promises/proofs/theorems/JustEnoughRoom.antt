@@ -15,6 +15,7 @@ use Rattle.promises.specs.History.{State, start, quote_in}
 use Rattle.promises.proofs.laws.Events.{start_fits}
 use Rattle.promises.proofs.laws.Untested.{quote_of, same_ground, same_quote}
 use Rattle.promises.proofs.theorems.StarredJobs.{computed}
+use Rattle.std.specs.Prelude.{Option, Some}
 
 -- three bytes, which with window 1 are the chunks 02 01 and 03: as many as three bytes can be
 abbrev pub short_chunks : List ℕ
@@ -33,7 +34,7 @@ just_enough =
     (omega arith) (omega arith) (omega arith)
 
 -- what its quote reports with so many
-abbrev pub refusal_with : (places entries bytes : ℕ) → Refusal
+abbrev pub refusal_with : (places entries bytes : ℕ) → Option Refusal
 refusal_with places entries bytes = (quote_in (store_with entries bytes) short_chunks (replicate places 0)).answer.refusal
 
 -- it can be computed without the test of the index
@@ -44,6 +45,6 @@ refusal_as places entries bytes =
     (same_quote (store_with entries bytes) (start_fits 1 _ _) short_chunks (replicate places 0))
 
 -- a place, an entry or a byte less is too few
-pub too_few : (refusal_with 1 2 3 ≡ RecipeFull) × (refusal_with 2 1 3 ≡ DirectoryFull) × (refusal_with 2 2 2 ≡ PoolFull)
+pub too_few : (refusal_with 1 2 3 ≡ Some RecipeFull) × (refusal_with 2 1 3 ≡ Some DirectoryFull) × (refusal_with 2 2 2 ≡ Some PoolFull)
 unfolding computed
 too_few = (refusal_as 1 2 3, refusal_as 2 1 3, refusal_as 2 2 2)

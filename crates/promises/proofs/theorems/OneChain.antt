@@ -5,12 +5,12 @@ use mathlib.Core.Path.{◌≡◌, refl, ap}
 use mathlib.Core.List.{List, [], ◌∷◌}
 use lib.IntN.{negsuc}
 use lib.ListN.{replicate}
-use Rattle.refusal.specs.declared.Refusal.TheVariants.{Accepted}
 use Rattle.gear.specs.Gear.{next, entries_from, table, sum_from, chain}
 use Rattle.index.specs.Index.{none, head_at, link_at, fresh_index, enter, enter_all}
 use Rattle.promises.specs.History.{AllBytes}
 use Rattle.promises.proofs.laws.Untested.{same_before}
 use Rattle.promises.proofs.theorems.StarredJobs.{handed, store_after, counts, computed, counts_as}
+use Rattle.std.specs.Prelude.{None}
 
 -- with window 1 the chunks 07 00, 05 01 and 13 10
 abbrev pub first_job : List ℕ
@@ -27,8 +27,8 @@ unfolding next entries_from table sum_from chain
 chains_of = (refl, refl, refl, refl)
 
 -- what the takes of both come to: only 16 14 is new in the second
-pub both_told : (counts 1 [] first_job ≡ (Accepted, 0 ∷ 1 ∷ 2 ∷ [], 6, 0, negsuc 71, 3, 0, 0))
-    × (counts 1 (first_job ∷ []) second_job ≡ (Accepted, 2 ∷ 3 ∷ [], 2, 2, negsuc 69, 2, 0, 0))
+pub both_told : (counts 1 [] first_job ≡ (None, 0 ∷ 1 ∷ 2 ∷ [], 6, 0, negsuc 71, 3, 0, 0))
+    × (counts 1 (first_job ∷ []) second_job ≡ (None, 2 ∷ 3 ∷ [], 2, 2, negsuc 69, 2, 0, 0))
 unfolding computed
 both_told = (counts_as 1 [] first_job _ tt refl, counts_as 1 (first_job ∷ []) second_job _ (omega arith) refl)
 

@@ -9,7 +9,6 @@ use mathlib.Core.List.{List, [], ◌∷◌, ◌++◌, map}
 use lib.IntN.{ℤ, negsuc}
 use lib.ListN.{length, replicate}
 use Rattle.refusal.specs.declared.Refusal.{Refusal}
-use Rattle.refusal.specs.declared.Refusal.TheVariants.{Accepted}
 use Rattle.scan.specs.Scanner.{fresh}
 use Rattle.chunker.specs.Scanner.{window_allowed}
 use Rattle.scan.specs.Move.{move, next}
@@ -30,6 +29,7 @@ use Rattle.admission.specs.Take.{quotation_of}
 use Rattle.promises.specs.History.{Event, taking, State, start, take_in, before, AllBytes}
 use Rattle.promises.proofs.laws.Untested as untested
 use Rattle.promises.proofs.laws.Untested.{ground, quote_of, take_of, told_at, told_by_take}
+use Rattle.std.specs.Prelude.{None, Option}
 
 -- n numbers, counting up from b
 abbrev pub rising_from : ℕ → ℕ → List ℕ
@@ -59,7 +59,7 @@ store_after w jobs = before (start w (replicate 32 0) (replicate 16 0)) (map han
 
 -- what is told of a job: refusal, recipe, new bytes, repeated bytes, saving, and the cuts of low, printable and high values
 abbrev pub Told : Type 0
-Told = Refusal × List ℕ × ℕ × ℕ × ℤ × ℕ × ℕ × ℕ
+Told = Option Refusal × List ℕ × ℕ × ℕ × ℤ × ℕ × ℕ × ℕ
 
 abbrev pub told : Quotation → Told
 told q =
@@ -121,11 +121,11 @@ rows =
     ∷ cut 2 (1 ∷ 2 ∷ 3 ∷ 4 ∷ []) ([], [], 4)
     ∷ cut 1 rising ([], [], 256)
     ∷ cut 1 (rising ++ (0 ∷ [])) (257 ∷ [], peak 256 255 ∷ [], 0)
-    ∷ counting 2 [] (3 ∷ 1 ∷ 2 ∷ 3 ∷ 1 ∷ 2 ∷ 7 ∷ []) (Accepted, 0 ∷ 0 ∷ 1 ∷ [], 4, 3, negsuc 68, 2, 0, 0)
-    ∷ counting 2 [] (9 ∷ []) (Accepted, 0 ∷ [], 1, 0, negsuc 71, 0, 0, 0)
-    ∷ counting 2 [] (5 ∷ 1 ∷ 1 ∷ 9 ∷ 2 ∷ 3 ∷ 4 ∷ []) (Accepted, 0 ∷ 1 ∷ 2 ∷ [], 7, 0, negsuc 71, 2, 0, 0)
+    ∷ counting 2 [] (3 ∷ 1 ∷ 2 ∷ 3 ∷ 1 ∷ 2 ∷ 7 ∷ []) (None, 0 ∷ 0 ∷ 1 ∷ [], 4, 3, negsuc 68, 2, 0, 0)
+    ∷ counting 2 [] (9 ∷ []) (None, 0 ∷ [], 1, 0, negsuc 71, 0, 0, 0)
+    ∷ counting 2 [] (5 ∷ 1 ∷ 1 ∷ 9 ∷ 2 ∷ 3 ∷ 4 ∷ []) (None, 0 ∷ 1 ∷ 2 ∷ [], 7, 0, negsuc 71, 2, 0, 0)
     ∷ counting 2 ((5 ∷ 1 ∷ 1 ∷ 9 ∷ 2 ∷ 3 ∷ 4 ∷ []) ∷ []) (6 ∷ 6 ∷ 1 ∷ 1 ∷ 9 ∷ 2 ∷ 3 ∷ 4 ∷ [])
-    (Accepted, 3 ∷ 4 ∷ 2 ∷ [], 7, 1, negsuc 70, 2, 0, 0)
+    (None, 3 ∷ 4 ∷ 2 ∷ [], 7, 1, negsuc 70, 2, 0, 0)
     ∷ kept 2 (1 ∷ 1 ∷ 9 ∷ 2 ∷ 3 ∷ 4 ∷ []) 3
     ∷ cut 2 (9 ∷ 1 ∷ 9 ∷ 2 ∷ 3 ∷ []) (3 ∷ [], peak 1 9 ∷ [], 2)
     ∷ not_kept 2 (9 ∷ 1 ∷ 9 ∷ 2 ∷ 3 ∷ []) 3

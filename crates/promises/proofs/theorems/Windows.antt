@@ -4,22 +4,23 @@ use Prim.Native.Nat.{ℕ, ◌≤◌, ◌<◌}
 use native.Mathlib.Omega.{arith}
 use mathlib.Core.Path.{◌≡◌, refl}
 use borrow.Author.Tests.{le-leb, lt-leb}
-use Rattle.refusal.specs.declared.Refusal.TheVariants.{Accepted, Window}
+use Rattle.refusal.specs.declared.Refusal.TheVariants.{Window}
 use Rattle.scan.specs.Limits.{window_limit}
 use Rattle.scan.specs.Scanner.{fresh as fresh_scanner}
 use Rattle.chunker.specs.Scanner.{window_allowed}
 use Rattle.chunker.specs.Answers.{opened as opened_scanner}
 use Rattle.store.specs.Opening.{fresh, opened}
+use Rattle.std.specs.Prelude.{None, Some}
 
 -- a scanner and a store of the window are refused by ground 1, with all zeros
 pub record Refused (w : ℕ) : Type 0 where
-  pub scanner : opened_scanner w ≡ record { refusal = Window; scanner = fresh_scanner 0 }
-  pub store : opened w ≡ record { refusal = Window; head = fresh 0 }
+  pub scanner : opened_scanner w ≡ record { refusal = Some Window; scanner = fresh_scanner 0 }
+  pub store : opened w ≡ record { refusal = Some Window; head = fresh 0 }
 
 -- a scanner and a store of the window are fresh
 pub record Opens (w : ℕ) : Type 0 where
-  pub scanner : opened_scanner w ≡ record { refusal = Accepted; scanner = fresh_scanner w }
-  pub store : opened w ≡ record { refusal = Accepted; head = fresh w }
+  pub scanner : opened_scanner w ≡ record { refusal = None; scanner = fresh_scanner w }
+  pub store : opened w ≡ record { refusal = None; head = fresh w }
 
 -- every window above the limit is refused
 pub refused_above : (w : ℕ) → window_limit < w → Refused w

@@ -20,12 +20,13 @@ use Rattle.chunker.proofs.theorems.EverySplitting.{cut_fresh}
 use Rattle.numbers.specs.Scanning.{numbers_of, scanner_of, unsound_ground, told}
 use Rattle.hirunvel.specs.Scanning.{ScannerFeeding, ScannerFinishing, numbers_ground, scanner_fed, scanner_finished}
 use Rattle.hirunvel.specs.internal.Fresh.{handed_over}
+use Rattle.std.specs.Prelude.{Some}
 
 -- a scanner that is not sound is refused
 unsound_refused : (w : ℕ) → accepted (unsound_ground w) ≡ false
 unsound_refused w = by_test (window_allowed w)
   where
-    by_test : (t : Bool) → accepted (first (unless t Window ∷ Unsound ∷ [])) ≡ false
+    by_test : (t : Bool) → accepted (first (unless t Window ∷ Some Unsound ∷ [])) ≡ false
     by_test true = refl
     by_test false = refl
 

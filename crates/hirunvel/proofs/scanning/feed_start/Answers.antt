@@ -5,15 +5,10 @@ use Rattle.hirunvel.proofs.scanning.feed_start.Goals as goal
 
 pub returns-then-untouched : goal.returns-then-untouched
 returns-then-untouched c =
-    let feed = c in
-    let tested = feed in
-    let a = tested.args in
-    let start = tested.untouched.ensures.numbers_value feed.if-untouched.true in
-    c.hand_over.ensures ∙ sym (fed_starts a.scanner.now start a.part.now _ feed.feed_fresh.ensures)
+    let start = c.untouched.ensures.numbers_value c.if-untouched.true in
+    c.hand_over.ensures ∙ sym (fed_starts c.args.scanner.now start c.args.part.now _ c.feed_fresh.ensures)
 
 pub returns : goal.returns
 returns c =
-    let tested = c in
-    let start = tested in
-    let touched = sym tested.untouched.ensures.value ∙ c.if-untouched.false in
-    rw (fed_unsound start.args.scanner.now start.requires touched _, c.unsound.ensures)
+    let touched = sym c.untouched.ensures.value ∙ c.if-untouched.false in
+    rw (fed_unsound c.args.scanner.now c.requires touched _, ← c.unsound.ensures, c.of_refusal.ensures)

@@ -1,27 +1,27 @@
 -- `hirunvel::scanning::hirunvel_scanner_finish` meets its contract.
-use mathlib.Core.Path.{◌≡◌, sym, ap, ◌∙◌}
+use mathlib.Core.Path.{◌≡◌, ap, ◌∙◌}
 use mathlib.Core.Bool.{cond}
 use Rattle.refusal.specs.Number.{accepted}
 use Rattle.chunker.specs.Answers.{finished}
 use Rattle.numbers.specs.Scanning.{numbers_of}
+use Rattle.hirunvel.proofs.laws.Told.{told_none}
 use Rattle.hirunvel.proofs.laws.scanning.Answers.{finished_over, finished_after}
 use Rattle.hirunvel.proofs.scanning.hirunvel_scanner_finish.Goals as goal
-use Rattle.hirunvel.proofs.scanning.hirunvel_scanner_finish.Goals.{then-accepted, else-accepted}
+use Rattle.hirunvel.proofs.scanning.hirunvel_scanner_finish.Goals.{then-is_none, else-is_none}
 
-pub returns-then-lent-gt255 : goal.returns-then-lent-gt255
-returns-then-lent-gt255 c = rw (finished_over _ c.if-lent-gt255.true, c.unsound.ensures)
-
-pub returns : goal.returns
-returns c =
-    let joined = c in
-    let tested = joined in
-    let finish = tested in
-    let a = finish.args in
-    let f = finish.finish-answer.result in
-    let answered = finish.finish-answer.ensures ∙ ap finished finish.scanner_of.ensures in
-    let scanner : joined.if-accepted.scanner ≡ cond (accepted f.refusal) (numbers_of f.scanner) a.scanner.now =
-    elim joined.if-accepted.branch [
-      | then-accepted moved ↦ rw (sym tested.accepted.ensures ∙ moved.if-accepted.true) (moved.scanner-is ∙ moved.of_scanner.ensures)
-      | else-accepted kept ↦ rw (sym tested.accepted.ensures ∙ kept.if-accepted.false) kept.scanner-is
+pub returns-after-is_none : goal.returns-after-is_none
+returns-after-is_none c =
+    let a = c.args in
+    let f = c.finish-answer.result in
+    let answered = c.finish-answer.ensures ∙ ap finished c.in-Ok.ensures.0 in
+    let scanner : c.if-is_none.scanner ≡ cond (accepted f.refusal) (numbers_of f.scanner) a.scanner.now =
+    elim c.if-is_none.branch [
+      | then-is_none moved ↦ rw (told_none _ _ c.is_none.ensures ∙ moved.if-is_none.true) (moved.scanner-is ∙ moved.into.ensures)
+      | else-is_none kept ↦ rw (told_none _ _ c.is_none.ensures ∙ kept.if-is_none.false) kept.scanner-is
     ] in
-    rw (finished_after a.scanner.now finish.if-lent-gt255.false f answered, c.of_refusal.ensures, scanner)
+    rw (finished_after a.scanner.now c.in-Ok.ensures.1 f answered, c.of_refusal.ensures, scanner, c.from.ensures)
+
+pub returns-in-Err : goal.returns-in-Err
+returns-in-Err c =
+    let refused = c.in-Err.ensures in
+    rw (finished_over _ refused.1, ← refused.0, c.of_refusal-in-Err.ensures)

@@ -6,4 +6,4 @@ pub returns : goal.returns
 unfolding scanner_opened
 returns c =
     let opening = c.open-answer.ensures in
-    rw (c.of_refusal.ensures, c.of_scanner.ensures, opening)
+    rw (c.of_refusal.ensures, c.into.ensures, opening)

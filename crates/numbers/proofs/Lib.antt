@@ -1,2 +1,0 @@
--- laws/scanning/Untouched has the numbers of a fresh scanner.
-pub mod laws
