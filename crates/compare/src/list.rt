@@ -1,27 +1,51 @@
 // A list of chunks in lent memory: how many numbers follow; for each chunk that a cut ends its length, and the place and the
 // value of its maximum point; then the length of the last chunk (see the crate `difference`).
 
-// Puts a number behind `count` others, and tells how many there are then. A number for which there is no room is
-// counted all the same: the comparison then shows a difference.
-pub fn add(list: &mut [usize], count: usize, number: usize) -> usize {
-    let next = count.wrapping_add(1);
-    if next < list.len() {
-        list[next] = number;
+// A list that is being written, and how many numbers it has so far.
+#[derive(Drop)]
+pub struct List<'a> {
+    memory: &'a mut [usize],
+    count: usize,
+}
+
+impl<'a> List<'a> {
+    // A list without numbers.
+    pub fn new(memory: &'a mut [usize]) -> List<'a> {
+        List { memory, count: 0 }
     }
-    next
-}
 
-// Puts the three numbers of a chunk that a cut ends behind `count` others, and tells how many there are then.
-pub fn add_cut(list: &mut [usize], count: usize, length: usize, place: usize, value: u8) -> usize {
-    let with_length = add(list, count, length);
-    let with_place = add(list, with_length, place);
-    add(list, with_place, value as usize)
-}
+    // Puts a number behind the others. A number for which there is no room is counted all the same: the comparison then
+    // shows a difference.
+    fn add(&mut self, number: usize) {
+        self.count = self.count.wrapping_add(1);
+        if self.count < self.memory.len() {
+            self.memory[self.count] = number;
+        }
+    }
 
-// Ends a list of `count` numbers with the length of the last chunk.
-pub fn end(list: &mut [usize], count: usize, last: usize) {
-    let whole = add(list, count, last);
-    if 0 < list.len() {
-        list[0] = whole;
+    // Puts the three numbers of a chunk that a cut ends behind the others.
+    pub fn add_cut(&mut self, length: usize, place: usize, value: u8) {
+        self.add(length);
+        self.add(place);
+        self.add(usize::from(value));
+    }
+
+    // Ends the list with the length of the last chunk.
+    pub fn end(&mut self, last: usize) {
+        self.add(last);
+        self.write_count();
+    }
+
+    // Ends the list with more numbers than there is room for, which no list is the same as.
+    pub fn spoil(&mut self) {
+        self.count = self.memory.len();
+        self.write_count();
+    }
+
+    // Writes how many numbers follow.
+    fn write_count(&mut self) {
+        if let Some(first) = self.memory.first_mut() {
+            *first = self.count;
+        }
     }
 }

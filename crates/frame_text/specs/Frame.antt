@@ -1,5 +1,5 @@
 -- The text of one frame: "22 upper-case hexadecimal digits and a line feed".
-use Rattle.std.specs.Prelude.{ℕ, zero, suc, ◌+◌, ◌/◌, ◌%◌, cond, List, [], ◌∷◌, ◌++◌, ltb}
+use Rattle.std.specs.Prelude.{ℕ, zero, suc, ◌+◌, ◌/◌, ◌%◌, cond, List, [], ◌∷◌, ◌++◌, ltb, Option}
 use Rattle.refusal.specs.Number.{number_of}
 use Rattle.refusal.specs.declared.Refusal.{Refusal}
 
@@ -21,5 +21,5 @@ unfoldable pub frame : ℕ → ℕ → ℕ → ℕ → List ℕ
 frame number position size mark = hex 4 number ++ (hex 8 position ++ (hex 8 size ++ (hex 2 mark ++ (10 ∷ []))))
 
 -- "The last frame is FFFF, new bytes (8), job length (8), refusal or 00 (2)"
-abbrev pub last_frame : ℕ → ℕ → Refusal → List ℕ
+abbrev pub last_frame : ℕ → ℕ → Option Refusal → List ℕ
 last_frame new_bytes job_length refusal = frame 65535 new_bytes job_length (number_of refusal)

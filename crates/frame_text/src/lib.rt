@@ -6,20 +6,19 @@ ghost use Rattle.std.proofs.lemmas.List.Edits.{sets};
 ghost use Rattle.frame_text.specs.Frame.{frame_bytes, digit, hex, frame, last_frame};
 
 use refusal::Refusal;
-use store::{ChunkNumber, JobPosition};
 
 // The bytes of a frame: 22 digits and a line feed.
 pub const FRAME_BYTES: usize = 23;
 
-// The character of a hexadecimal digit, in upper case.
+// The character of a hexadecimal digit, in upper case. The program `gear_table` has such digits too; neither crate sees the other.
 fn digit(value: u32) -> u8
     requires { value < 16 }
     ensures { result ≡ digit value }
 {
-    if value < 10 {
-        return 48 + value as u8;
+    match value as u8 {
+        value @ 0..=9 => b'0' + value,
+        value => b'A' + (value - 10),
     }
-    55 + value as u8
 }
 
 // Writes the last `width` hexadecimal digits of a number, from the last one back.
@@ -27,50 +26,37 @@ fn write_hex(output: &mut [u8], at: usize, width: usize, value: u32)
     requires { at + width ≤ length output.old }
     ensures { output.new ≡ sets output.old at (hex width value) }
 {
-    let mut left = width;
     let mut rest = value;
-    while 0 < left {
-        left -= 1;
-        output[at + left] = digit(rest % 16);
+    for place in (0..width).rev() {
+        output[at + place] = digit(rest % 16);
         rest /= 16;
     }
 }
 
-// Writes a frame, and tells where it ends.
-fn write_frame(
-    output: &mut [u8],
-    at: usize,
-    number: u32,
-    position: u32,
-    size: u32,
-    mark: u8,
-) -> usize
-    requires { at + frame_bytes ≤ length output.old }
-    ensures value { result ≡ at + frame_bytes }
-    ensures output_after { output.new ≡ sets output.old at (frame number position size mark) }
-{
-    write_hex(output, at, 4, number);
-    write_hex(output, at + 4, 8, position);
-    write_hex(output, at + 12, 8, size);
-    write_hex(output, at + 20, 2, mark as u32);
-    output[at + 22] = 10;
-    at + FRAME_BYTES
+// The numbers of a frame.
+#[derive(Clone, Copy)]
+pub struct Frame {
+    pub number: u32,
+    pub position: u32,
+    pub size: u32,
+    pub mark: u8,
 }
 
-// The frame of a chunk.
-pub fn chunk_frame(
-    output: &mut [u8],
-    at: usize,
-    number: ChunkNumber,
-    position: JobPosition,
-    size: u32,
-    mark: u8,
-) -> usize
-    requires { at + frame_bytes ≤ length output.old }
-    ensures value { result ≡ at + frame_bytes }
-    ensures output_after { output.new ≡ sets output.old at (frame number.0 position.0 size mark) }
-{
-    write_frame(output, at, number.0, position.0, size, mark)
+impl Frame {
+    // Writes the frame, and tells where it ends.
+    pub fn write(self, output: &mut [u8], at: usize) -> usize
+        requires { at + frame_bytes ≤ length output.old }
+        ensures value { result ≡ at + frame_bytes }
+        ensures output_after { output.new
+            ≡ sets output.old at (frame self.number self.position self.size self.mark) }
+    {
+        write_hex(output, at, 4, self.number);
+        write_hex(output, at + 4, 8, self.position);
+        write_hex(output, at + 12, 8, self.size);
+        write_hex(output, at + 20, 2, u32::from(self.mark));
+        output[at + 22] = b'\n';
+        at + FRAME_BYTES
+    }
 }
 
 // The last frame.
@@ -79,18 +65,17 @@ pub fn last_frame(
     at: usize,
     new_bytes: u32,
     job_length: u32,
-    refusal: Refusal,
+    refusal: Option<Refusal>,
 ) -> usize
     requires { at + frame_bytes ≤ length output.old }
     ensures value { result ≡ at + frame_bytes }
     ensures output_after { output.new ≡ sets output.old at (last_frame new_bytes job_length refusal) }
 {
-    write_frame(
-        output,
-        at,
-        65535,
-        new_bytes,
-        job_length,
-        refusal::number(refusal),
-    )
+    let frame = Frame {
+        number: 0xFFFF,
+        position: new_bytes,
+        size: job_length,
+        mark: refusal::number(refusal),
+    };
+    frame.write(output, at)
 }

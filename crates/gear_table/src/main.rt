@@ -11,7 +11,8 @@ const FIRST_ENTRY: u32 = 270369;
 // How many entries it has.
 const ENTRIES: usize = 256;
 
-// The next entry: the xorshift steps left 13, right 17, left 5.
+// The next entry: the xorshift steps left 13, right 17, left 5. The program `compare` draws its numbers by such steps too; no
+// program sees another.
 fn next(x: u32) -> u32
     ensures { result ≡ next x }
 {
@@ -30,7 +31,9 @@ fn digit_at(entry: u32, place: u32) -> u8
     digits[value as usize]
 }
 
-// The line of an entry: eight upper-case hexadecimal digits and a line feed.
+// The line of an entry: eight upper-case hexadecimal digits and a line feed. Written out as its definition is: a loop over the
+// places is no plainer, since its invariant has to say the nine bytes one by one, and of `{:08X}` the library's lemmas tell the
+// text of a byte alone.
 fn line(entry: u32) -> [u8; 9]
     ensures { result ≡ line entry }
 {
@@ -43,26 +46,16 @@ fn line(entry: u32) -> [u8; 9]
         digit_at(entry, 2),
         digit_at(entry, 1),
         digit_at(entry, 0),
-        10,
+        b'\n',
     ]
 }
 
-// Writes a text to standard output, and tells whether that succeeds, with a message on standard error
-// if not.
-fn print(rt: &(impl Print + Eprint), text: &[u8]) -> bool {
-    match rt.write_all(text) {
-        Ok(()) => true,
-        Err(error) => {
-            let _ = eprintln!(rt; "gear_table: standard output: {error}");
-            false
-        }
-    }
-}
-
+// Stops with a message on standard error where standard output fails.
 fn main(rt: HostRuntime) {
     let mut entry = FIRST_ENTRY;
     for _ in 0..ENTRIES {
-        if !print(&rt, &line(entry)) {
+        if let Err(error) = rt.write_all(&line(entry)) {
+            let _ = eprintln!(rt; "gear_table: standard output: {error}");
             return;
         }
         entry = next(entry);

@@ -1,8 +1,8 @@
 -- The listing of a job: "prints a frame a line".
-use Rattle.std.specs.Prelude.{ℕ, ◌+◌, ◌*◌, cond, List, [], ◌∷◌, ◌++◌, leb, length, drop, replicate}
+use Rattle.std.specs.Prelude.{ℕ, ◌+◌, ◌*◌, cond, List, [], ◌∷◌, ◌++◌, leb, length, drop, replicate, None, Option, Some}
 use Rattle.refusal.specs.Number.{accepted}
 use Rattle.refusal.specs.declared.Refusal.{Refusal}
-use Rattle.refusal.specs.declared.Refusal.TheVariants.{Accepted, JobLength}
+use Rattle.refusal.specs.declared.Refusal.TheVariants.{JobLength}
 use Rattle.chunker.specs.Chunks.{chunks}
 use Rattle.directory.specs.Entry.{stride}
 use Rattle.store.specs.Opening.{fresh}
@@ -42,7 +42,7 @@ chunk_frames earlier position (c ∷ cs) (n ∷ ns) =
     ++ chunk_frames (earlier ++ (c ∷ [])) (position + length c) cs ns
 
 -- "A refused job gives the last frame only, both counts 0"
-abbrev pub refused_frame : Refusal → List ℕ
+abbrev pub refused_frame : Option Refusal → List ℕ
 refused_frame refusal = last_frame 0 0 refusal
 
 -- "It admits standard input to a fresh store": what its quote answers and leaves, and its take does too
@@ -55,16 +55,16 @@ outcome job =
 abbrev pub quoted_frames : List ℕ → Quotation → List ℕ
 quoted_frames job q =
     cond (accepted q.answer.refusal)
-    (chunk_frames [] 0 (chunks window job) (recipe_of q) ++ last_frame q.answer.new_bytes (length job) Accepted)
+    (chunk_frames [] 0 (chunks window job) (recipe_of q) ++ last_frame q.answer.new_bytes (length job) None)
     (refused_frame q.answer.refusal)
 
 -- the text of a job's frames
 unfoldable pub listing : List ℕ → List ℕ
-listing job = cond (leb (length job) longest_job) (quoted_frames job (outcome job)) (refused_frame JobLength)
+listing job = cond (leb (length job) longest_job) (quoted_frames job (outcome job)) (refused_frame (Some JobLength))
 
 -- the refusal of a job
-unfoldable pub refusal_of : List ℕ → Refusal
-refusal_of job = cond (leb (length job) longest_job) (outcome job).answer.refusal JobLength
+unfoldable pub refusal_of : List ℕ → Option Refusal
+refusal_of job = cond (leb (length job) longest_job) (outcome job).answer.refusal (Some JobLength)
 
 -- what a listing answers, and the output that it leaves
 pub record Listing : Type 0 where
@@ -72,7 +72,7 @@ pub record Listing : Type 0 where
   pub output : List ℕ
 
 -- a refusal is told, and a text stands at the front of the output
-abbrev pub written : Refusal → List ℕ → List ℕ → Listing
+abbrev pub written : Option Refusal → List ℕ → List ℕ → Listing
 written refusal text output =
     record {
       answer = record { refusal = refusal; written = length text };

@@ -7,18 +7,17 @@ ghost use Rattle.listing_frames.specs.Frames.{window, longest_job};
 ghost use Rattle.listing_frames.specs.internal.Counted.{mark, counted_frames};
 
 use crate::WINDOW;
-use frame_text::FRAME_BYTES;
-use store::{ChunkNumber, JobPosition};
+use frame_text::{FRAME_BYTES, Frame};
 
 // 1 where a chunk is new: it has the number that the next new chunk gets.
-fn mark(number: ChunkNumber, next: ChunkNumber) -> u8
-    ensures { result ≡ mark number.0 next.0 }
+fn mark(number: u32, next: u32) -> u8
+    ensures { result ≡ mark number next }
 {
-    if number.0 == next.0 { 1 } else { 0 }
+    u8::from(number == next)
 }
 
 // Writes one frame per chunk of a job, and tells how many bytes they are. The chunks are found once
-// more, and their numbers are in the recipe.
+// more, and their numbers are in the recipe. The place in the job goes on by the length that is found, so no range counts it.
 pub fn frames(job: &[u8], recipe: &[u32], output: &mut [u8]) -> usize
     requires job_len_bound { length job.now ≤ longest_job }
     requires job_in_bounds { length (chunks window job.now) ≤ length recipe.now }
@@ -30,19 +29,17 @@ pub fn frames(job: &[u8], recipe: &[u32], output: &mut [u8]) -> usize
     let mut used = 0;
     let mut at = 0;
     while at < job.len() {
-        let chunk = chunker::next_chunk(WINDOW, &job[at..]);
-        let size = chunk.length;
+        let size = chunker::next_chunk(WINDOW, &job[at..]).length;
         let number = recipe[used];
-        let new = mark(ChunkNumber(number), ChunkNumber(next));
-        frame_text::chunk_frame(
-            output,
-            FRAME_BYTES * used,
-            ChunkNumber(number),
-            JobPosition(at as u32),
-            size as u32,
-            new,
-        );
-        next += new as u32;
+        let new = mark(number, next);
+        let frame = Frame {
+            number,
+            position: at as u32,
+            size: size as u32,
+            mark: new,
+        };
+        frame.write(output, FRAME_BYTES * used);
+        next += u32::from(new);
         used += 1;
         at += size;
     }

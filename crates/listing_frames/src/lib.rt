@@ -1,7 +1,7 @@
 // The listing of a job: one frame per chunk, and a last frame with the counts.
 #![tactic(auto)]
 
-ghost use Rattle.std.specs.Prelude.{◌≡◌};
+ghost use Rattle.std.specs.Prelude.{◌≡◌, Some};
 ghost use Rattle.listing_frames.specs.Frames.{refused_frame, written, listed};
 
 mod chunks;
@@ -30,14 +30,16 @@ pub const OUTPUT_BYTES: usize = (RECIPE_PLACES + 1) * FRAME_BYTES;
 // The refusal of a job, and how many bytes of frames were written.
 #[derive(Clone, Copy)]
 pub struct Listed {
-    pub refusal: Refusal,
+    pub refusal: Option<Refusal>,
     pub written: usize,
 }
 
 // Writes the one frame of a refused job.
-fn refused(output: &mut [u8; OUTPUT_BYTES], refusal: Refusal) -> Listed
-    ensures { record { answer = result; output = output.new } ≡ written refusal (refused_frame refusal) output.old }
+fn refused(output: &mut [u8; OUTPUT_BYTES], ground: Refusal) -> Listed
+    ensures { record { answer = result; output = output.new }
+        ≡ written (Some ground) (refused_frame (Some ground)) output.old }
 {
+    let refusal = Some(ground);
     let written = frame_text::last_frame(output, 0, 0, 0, refusal);
     Listed { refusal, written }
 }
@@ -54,12 +56,10 @@ pub fn frames(job: &[u8], output: &mut [u8; OUTPUT_BYTES]) -> Listed
     let mut directory = [0u32; DIRECTORY_NUMBERS];
     let mut index = [index::NONE; INDEX_NUMBERS];
     let mut recipe = [0u32; RECIPE_PLACES];
-    let opened = store::open(WINDOW);
-    let head = opened.head;
+    let head = store::open(WINDOW).head;
     let quoted = admission::quote(head, &pool, &directory, &index, &mut recipe, job);
-    let refusal = quoted.refusal;
-    if !refusal::accepted(refusal) {
-        return refused(output, refusal);
+    if let Some(ground) = quoted.refusal {
+        return refused(output, ground);
     }
     let taken = admission::take(
         head,
@@ -75,7 +75,10 @@ pub fn frames(job: &[u8], output: &mut [u8; OUTPUT_BYTES]) -> Listed
         end,
         taken.quoted.new_bytes,
         job.len() as u32,
-        refusal,
+        None,
     );
-    Listed { refusal, written }
+    Listed {
+        refusal: None,
+        written,
+    }
 }

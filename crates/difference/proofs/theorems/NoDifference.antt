@@ -8,33 +8,29 @@ use borrow.Author.Tests.{eq-eqb, eqb-true, ltb-true, lt-ltb}
 use lib.Dec.{eqb, ltb}
 use lib.ListN.{length, get_or, take}
 use lib.Seq.{get_or-take, length-take-le}
-use Rattle.difference.specs.declared.Difference.{Difference}
-use Rattle.difference.specs.declared.Difference.TheVariants.{Nowhere, At}
+use Rattle.std.specs.Prelude.{Option, None, Some}
 use Rattle.difference.specs.Difference.{count, from_place, difference, Same}
 
-pub never : {i : ℕ} → At i ≡ Nowhere → ⊥
-never h = let z : ◌≡◌ {A = ℕ} 0 1 = cc in omega arith
-
 -- a test that leads to nowhere is passed
-passed : (t : Bool) (d : Difference) (i : ℕ) → cond t d (At i) ≡ Nowhere → (t ≡ true) × (d ≡ Nowhere)
+passed : (t : Bool) (d : Option ℕ) (i : ℕ) → cond t d (Some i) ≡ None → (t ≡ true) × (d ≡ None)
 passed true d i h = (refl, h)
-passed false d i h = absurd (never h)
+passed false d i h = cc
 
 -- nowhere: ys begins with xs
-told : (i : ℕ) (xs ys : List ℕ) → from_place i xs ys ≡ Nowhere → take (length xs) ys ≡ xs
+told : (i : ℕ) (xs ys : List ℕ) → from_place i xs ys ≡ None → take (length xs) ys ≡ xs
 unfolding from_place
 told i [] ys h = refl
-told i (x ∷ xs) [] h = absurd (never h)
+told i (x ∷ xs) [] h = cc
 told i (x ∷ xs) (y ∷ ys) h =
     let p = passed (eqb x y) _ _ h in
     let e : x ≡ y = eqb-true x y p.0 in
     cc (e, told (suc i) xs ys p.1)
 
 -- and back
-untold : (i : ℕ) (xs ys : List ℕ) → take (length xs) ys ≡ xs → from_place i xs ys ≡ Nowhere
+untold : (i : ℕ) (xs ys : List ℕ) → take (length xs) ys ≡ xs → from_place i xs ys ≡ None
 unfolding from_place
 untold i [] ys e = refl
-untold i (x ∷ xs) [] e = absurd (let z : ◌≡◌ {A = ℕ} 0 1 = cc in omega arith)
+untold i (x ∷ xs) [] e = cc
 untold i (x ∷ xs) (y ∷ ys) e =
     let head : x ≡ y = cc in
     let tail : take (length xs) ys ≡ xs = cc in
@@ -46,7 +42,7 @@ heads n m xs ys e =
     sym (get_or-take (suc n) xs 0 0 (omega arith)) ∙ (ap (λ l. get_or l 0 0) e ∙ get_or-take (suc m) ys 0 0 (omega arith))
 
 -- what is told where no difference is
-same_told : (xs ys : List ℕ) → difference xs ys ≡ Nowhere → Same xs ys
+same_told : (xs ys : List ℕ) → difference xs ys ≡ None → Same xs ys
 unfolding difference
 same_told xs ys h =
     let p = passed (ltb (count xs) (length xs) && ltb (count xs) (length ys)) _ 0 h in
@@ -59,7 +55,7 @@ same_told xs ys h =
     record { first = whole; second = rw same other; list = rw same (sym begin) }
 
 -- and where it is not
-none_told : (xs ys : List ℕ) → Same xs ys → difference xs ys ≡ Nowhere
+none_told : (xs ys : List ℕ) → Same xs ys → difference xs ys ≡ None
 unfolding difference
 none_told xs ys s =
     let same : count xs ≡ count ys = heads (count xs) (count ys) xs ys s.list in
@@ -69,5 +65,5 @@ none_told xs ys s =
     (untold 0 _ ys (rw long (ap (λ n. take (suc n) ys) same ∙ sym s.list)))
 
 -- No difference is told if and only if the lists are the same.
-pub no_difference : (xs ys : List ℕ) → (difference xs ys ≡ Nowhere → Same xs ys) × (Same xs ys → difference xs ys ≡ Nowhere)
+pub no_difference : (xs ys : List ℕ) → (difference xs ys ≡ None → Same xs ys) × (Same xs ys → difference xs ys ≡ None)
 no_difference xs ys = (same_told xs ys, none_told xs ys)

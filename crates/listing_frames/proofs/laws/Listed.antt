@@ -5,7 +5,7 @@ use native.Mathlib.Nat.{zero-add}
 use mathlib.Core.Path.{◌≡◌, refl, ap, sym, ◌∙◌}
 use mathlib.Core.Bool.{true}
 use mathlib.Core.List.{List, [], ◌++◌}
-use lib.ListN.{length, drop, length-append, take-append-drop}
+use lib.ListN.{length, drop, replicate, length-append, take-append-drop}
 use lib.Seq.{sets, sets-eq}
 use borrow.Author.Tests.{le-leb, lt-leb}
 use Rattle.refusal.specs.Number.{number_of, accepted}
@@ -20,14 +20,18 @@ use Rattle.store.specs.Memory.{chunks_from}
 use Rattle.store.specs.Opening.{fresh, opened}
 use Rattle.store.proofs.laws.contents.Additions.{length_numbers}
 use Rattle.admission.specs.Quote.{Quotation, quoted, recipe_of}
+use Rattle.admission.specs.Take.{quotation_of, taken}
+use Rattle.admission.proofs.theorems.QuoteAndTake.{taken_after}
+use Rattle.index.specs.Index.{fresh_index}
 use Rattle.frame_text.specs.Frame.{frame_bytes, last_frame}
-use Rattle.listing_frames.specs.Frames.{window, longest_job, chunk_frames, refused_frame, outcome, quoted_frames, listing, refusal_of, written, listed}
+use Rattle.listing_frames.specs.Frames.{window, pool_bytes, entry_count, directory_numbers, recipe_places, longest_job, chunk_frames, refused_frame, outcome, quoted_frames, listing, refusal_of, written, listed}
 use Rattle.listing_frames.specs.internal.Counted.{counted_frames}
 use Rattle.frame_text.proofs.laws.Stores.{sets_then, frame_length}
 use Rattle.store.proofs.laws.contents.Additions.{numbers_after}
 use Rattle.admission.proofs.laws.Asked.{asked}
 use Rattle.listing_frames.proofs.laws.chunks.Walking.{counted_length}
 use Rattle.listing_frames.proofs.laws.chunks.NewChunks.{counted_first, counted_front}
+use Rattle.std.specs.Prelude.{Option, Some}
 
 -- the frames that the code writes for an accepted job
 abbrev pub coded_frames : List ℕ → Quotation → List ℕ
@@ -67,9 +71,21 @@ pub fresh_head : (o : Opened) → o ≡ opened window → o.head ≡ fresh windo
 unfolding opened window_allowed
 fresh_head o e = rw e
 
+-- the take after the quote tells the same
+pub took_listed : (job : List ℕ) (q t : Quotation) → q ≡ outcome job
+    → t ≡ quotation_of (taken (fresh window) (replicate pool_bytes 0) (replicate directory_numbers 0) (fresh_index entry_count) q.recipe job)
+    → t ≡ outcome job
+took_listed job q t came took =
+    let pool = replicate pool_bytes 0 in
+    let directory = replicate directory_numbers 0 in
+    let index = fresh_index entry_count in
+    took
+    ∙ ap (λ (q : Quotation). quotation_of (taken (fresh window) pool directory index q.recipe job)) came
+    ∙ taken_after (fresh window) pool directory index (replicate recipe_places 0) job
+
 -- too long a job
 pub long_listed : (job output : List ℕ) → longest_job < length job
-    → listed job output ≡ written JobLength (refused_frame JobLength) output
+    → listed job output ≡ written (Some JobLength) (refused_frame (Some JobLength)) output
 unfolding listed listing refusal_of
 long_listed job output h = rw (lt-leb _ _ h)
 
@@ -80,16 +96,16 @@ unfolding listed listing refusal_of
 short_listed job output h q e = rw (le-leb _ _ h, e)
 
 -- the text and the refusal are told, and the text stands at the front of the output
-abbrev pub Stands : Refusal → List ℕ → List ℕ → List ℕ → ℕ → Type 0
+abbrev pub Stands : Option Refusal → List ℕ → List ℕ → List ℕ → ℕ → Type 0
 Stands refusal text before after end =
     record { answer = record { refusal = refusal; written = end }; output = after } ≡ written refusal text before
 
-at_front : (refusal : Refusal) (text before after : List ℕ) (end : ℕ) → length text ≤ length before → end ≡ length text
+at_front : (refusal : Option Refusal) (text before after : List ℕ) (end : ℕ) → length text ≤ length before → end ≡ length text
     → after ≡ sets before 0 text → Stands refusal text before after end
 at_front refusal text before after end room told e = rw (told, e, sets-eq text before 0 (omega arith), zero-add)
 
 -- one frame
-pub one_stands : (refusal : Refusal) (before after : List ℕ) (end : ℕ) → frame_bytes ≤ length before
+pub one_stands : (refusal : Option Refusal) (before after : List ℕ) (end : ℕ) → frame_bytes ≤ length before
     → end ≡ 0 + frame_bytes → after ≡ sets before 0 (refused_frame refusal)
     → Stands refusal (refused_frame refusal) before after end
 one_stands refusal before after end room told stored =

@@ -19,6 +19,7 @@ use Rattle.index.specs.Grounds.{length_allowed, meets}
 use Rattle.index.specs.Along.{belongs, along, along_all}
 use Rattle.frame_text.specs.Frame.{hex, frame}
 use Rattle.listing_frames.specs.Frames.{chunk_frames, refused_frame, listing}
+use Rattle.std.specs.Prelude.{Some}
 
 -- 0000000000000000000501
 abbrev pub first : List ℕ
@@ -44,6 +45,6 @@ unfolding listing frame hex chunk_frames has quoted admission_ground window_allo
 twelve_bytes = refl
 
 -- an empty job gives the last frame only, with refusal 3
-pub empty_job : listing [] ≡ refused_frame JobLength
+pub empty_job : listing [] ≡ refused_frame (Some JobLength)
 unfolding listing quoted admission_ground window_allowed job_allowed
 empty_job = refl
