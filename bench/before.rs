@@ -1,4 +1,4 @@
-//! The version before, which tells no maximum points: commit 1e26cdc. `make bench` looks for its two archives, in which
+//! The version before: commit 5589cbb. `make bench` looks for its two archives, in which
 //! each name begins with `before_`, and measures without them unless both are there. To make them, check out that commit
 //! in another folder, FOLDER, and then here:
 //!
@@ -20,7 +20,7 @@ unsafe extern "C" {
         scanner: *mut [u32; 4],
         part: *const u8,
         part_len: usize,
-        fed: *mut [u64; 2],
+        fed: *mut [u64; 4],
     ) -> u32;
     fn before_hirunvel_store_quote(
         head: *const [u32; 3],
@@ -34,7 +34,7 @@ unsafe extern "C" {
         recipe_len: usize,
         job: *const u8,
         job_len: usize,
-        counts: *mut [u64; 3],
+        counts: *mut [u64; 6],
         saving: *mut [i64; 1],
     ) -> u32;
     fn before_hirunvel_store_take(
@@ -49,7 +49,7 @@ unsafe extern "C" {
         recipe_len: usize,
         job: *const u8,
         job_len: usize,
-        counts: *mut [u64; 3],
+        counts: *mut [u64; 6],
         saving: *mut [i64; 1],
     ) -> u32;
 }
@@ -65,9 +65,9 @@ pub fn chunk_count(window: u32, job: &[u8]) -> u64 {
     unsafe { before_hirunvel_chunk_count(window, job.as_ptr(), job.len()) }
 }
 
-/// Moves a scanner on over a part. `fed` keeps its place and value.
+/// Moves a scanner on over a part.
 pub fn feed(scanner: &mut Scanner, part: &[u8], fed: &mut Fed) -> u32 {
-    // SAFETY: as for the library's feed; the first two numbers of `Fed` are written.
+    // SAFETY: as for the library's feed.
     unsafe {
         before_hirunvel_scanner_feed(
             ptr::from_mut(scanner).cast(),
@@ -78,7 +78,7 @@ pub fn feed(scanner: &mut Scanner, part: &[u8], fed: &mut Fed) -> u32 {
     }
 }
 
-/// Quotes a job. The answer keeps its counts of cuts.
+/// Quotes a job.
 pub fn quote(
     head: &Head,
     pool: &[u8],
@@ -88,7 +88,7 @@ pub fn quote(
     job: &[u8],
     answer: &mut Answer,
 ) -> u32 {
-    // SAFETY: as for the library's quote; the first three counts are written.
+    // SAFETY: as for the library's quote.
     unsafe {
         before_hirunvel_store_quote(
             ptr::from_ref(head).cast(),
@@ -108,7 +108,7 @@ pub fn quote(
     }
 }
 
-/// Takes a job. The answer keeps its counts of cuts.
+/// Takes a job.
 pub fn take(
     head: &mut Head,
     pool: &mut [u8],
@@ -118,7 +118,7 @@ pub fn take(
     job: &[u8],
     answer: &mut Answer,
 ) -> u32 {
-    // SAFETY: as for the library's take; the first three counts are written.
+    // SAFETY: as for the library's take.
     unsafe {
         before_hirunvel_store_take(
             ptr::from_mut(head).cast(),

@@ -128,11 +128,9 @@ fn run_feed(feed: Feed, mut scanner: Scanner, part: &[u8]) -> Left {
     (refusal, scanner, fed)
 }
 
-/// Compares what the version before tells and leaves, but for the maximum point, which it does not tell.
+/// Compares what the version before tells and leaves.
 #[cfg(before)]
-fn compare_before(what: impl Fn() -> String, now: &Left, mut before: Left) {
-    before.2.place = now.2.place;
-    before.2.value = now.2.value;
+fn compare_before(what: impl Fn() -> String, now: &Left, before: Left) {
     agree(what, [("library", now), (before::NAME, &before)]);
 }
 
