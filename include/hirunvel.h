@@ -21,7 +21,7 @@
  * first number of the scanner or the head.
  *
  * Link with libhirunvel.a, which is for x86-64 with the System V calling convention. It needs no other library, not even
- * the C library. A quote or a take needs about 24 KiB of stack, any other call at most 1 KiB; this is measured, not
+ * the C library. A quote or a take needs about 22 KiB of stack, any other call at most 1 KiB; this is measured, not
  * proved. The code uses the SSE2 registers and the red zone, the 128 bytes below the stack pointer. So in a kernel or
  * an interrupt handler, call it only if these registers are saved and no interrupt uses the same stack.
  */
