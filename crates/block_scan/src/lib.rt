@@ -2,19 +2,20 @@
 // the chunker.
 #![tactic(auto)]
 
-ghost use Rattle.std.specs.Prelude.{◌≡◌, MatchOption, length, ◌≤◌, ◌<◌};
+ghost use Rattle.std.specs.Prelude.{◌≡◌, MatchOption, length, get_or, ◌+◌, ◌-◌, ◌≤◌, ◌<◌};
 ghost use Rattle.scan.specs.Limits.{window_limit};
 ghost use Rattle.scan.specs.Scanner.{fresh};
 ghost use Rattle.scan.specs.Scan.{scan, first_chunk};
 ghost use Rattle.scan.specs.internal.Sound.{Sound};
-ghost use Rattle.scan.specs.internal.Run.{rest};
+ghost use Rattle.scan.specs.internal.Run.{onward, rest};
+ghost use Rattle.scan.specs.internal.Order.{InOrder};
 ghost use Rattle.block_scan.specs.internal.Advance.{CutAtDeadline, Advanced, Ended};
 ghost use Rattle.block_scan.specs.internal.Peaks.{Settled, AtLargest, AtPeak};
 
 mod windows;
 
 use scan::run::Run;
-use scan::{Fed, FirstChunk, Scanner};
+use scan::{Fed, FirstChunk, Scanner, run};
 
 // The smallest window that is scanned by blocks.
 const SMALLEST: usize = 8;
@@ -32,7 +33,7 @@ pub fn scan(scanner: Scanner, part: &[u8]) -> Fed
         return run.pass_one().by_bytes();
     }
     if scanner.count == 0 {
-        return by_windows(run);
+        return by_windows(part, run.window, run.base, run.value, run.at);
     }
     from_middle(run)
 }
@@ -48,7 +49,7 @@ pub fn from_start(window: u32, part: &[u8]) -> Fed
     if run.window < SMALLEST {
         return run.pass_one().by_bytes();
     }
-    by_windows(run)
+    by_windows(part, run.window, run.base, run.value, run.at)
 }
 
 // The first chunk of a job that is not empty. Where no cut ends it, its last bytes are not looked at.
@@ -86,27 +87,28 @@ pub fn first_chunk(window: u32, job: &[u8]) -> FirstChunk
     }
 }
 
-// Window by window, from a byte that is the largest so far.
-fn by_windows(run: Run) -> Fed
-    requires at_largest { AtLargest run }
-    requires le_window { 8 ≤ run.window }
-    ensures { result ≡ rest run.entry }
+// Window by window, from a byte that is the largest so far and stands before index `at`. It is handed the numbers one by one: a
+// run would go through memory, and with it a feed from C would take more than 1 KiB of stack.
+fn by_windows(part: &[u8], window: usize, base: usize, value: u8, at: usize) -> Fed
+    requires order { InOrder part.now window base (at + window) value at }
+    requires largest { (1 ≤ at) × (value ≡ get_or part.now (at - 1) 0) }
+    requires le_window { 8 ≤ window }
+    ensures { result ≡ onward part.now window base (at + window) value at }
 {
-    let part = run.part;
-    let after = windows::settled(run.window, part, run.at, run.value);
-    let deadline = after + run.window;
+    let after = windows::settled(window, part, at, value);
+    let deadline = after + window;
     if part.len() < deadline {
+        let run = Run {
+            part,
+            window,
+            base,
+            deadline: at + window,
+            value,
+            at,
+        };
         return to_end(at_peak(run, after)).passed();
     }
-    let run = Run {
-        part,
-        window: run.window,
-        base: run.base,
-        deadline,
-        value: part[after - 1],
-        at: after,
-    };
-    run.cut()
+    run::cut(window, base, deadline, part[after - 1])
 }
 
 // The run where it has settled, past its largest byte so far. Where it stayed, the byte is not read again.
@@ -139,7 +141,7 @@ fn from_middle(run: Run) -> Fed
     if next.at == next.part.len() {
         return next.passed();
     }
-    by_windows(next)
+    by_windows(next.part, next.window, next.base, next.value, next.at)
 }
 
 // Passes bytes up to and including one that is larger than the value, or to the part's end; nothing where the chunk ends

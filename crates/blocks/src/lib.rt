@@ -74,12 +74,16 @@ pub fn first_largest<const N: usize>(part: &[u8], from: usize, last: usize, shif
     peak_of(from, least)
 }
 
-// The largest byte from `from` on, 0 where there is none.
+// The largest byte from `from` on, 0 where there is none. By its index: with the library's `fold` a feed takes 32 bytes of stack more.
 pub fn largest_from(part: &[u8], from: usize) -> u8
     requires { from ≤ length part.now }
     ensures { result ≡ fold max 0 (drop from part.now) }
 {
-    part[from..].iter().fold(0, |most, byte| most.max(*byte))
+    let mut most = 0;
+    for at in from..part.len() {
+        most = most.max(part[at]);
+    }
+    most
 }
 
 // The first index from `from` on at which `byte` stands. It is proved to be there, so the end of the part is not tested:

@@ -1,5 +1,6 @@
 // A scan under way over a part, byte by byte.
-ghost use Rattle.std.specs.Prelude.{◌≡◌, length, ◌+◌, ◌-◌, ◌≤◌, ◌<◌};
+ghost use Rattle.std.specs.Prelude.{◌≡◌, length, ◌+◌, ◌-◌, ◌^◌, ◌≤◌, ◌<◌};
+ghost use Rattle.scan.specs.Scan.{cut_after};
 ghost use Rattle.scan.specs.internal.Sound.{Sound};
 ghost use Rattle.scan.specs.internal.Order.{InOrder};
 
@@ -17,6 +18,23 @@ pub struct Run<'p> {
     pub value: u8,
     pub at: usize,
     pub ghost order: { InOrder part.now window base deadline value at },
+}
+
+// A cut follows `deadline` bytes of a part, before which the open chunk had `base` bytes. The maximum point is the largest byte so
+// far.
+pub fn cut(window: usize, base: usize, deadline: usize, value: u8) -> Fed
+    requires deadline_bound { base + deadline < 2 ^ 32 }
+    requires window_bound { window < base + deadline }
+    ensures { result ≡ cut_after window deadline (base + deadline - window) value }
+{
+    Fed {
+        refusal: None,
+        scanner: fresh(window as u32),
+        consumed: deadline,
+        cut: true,
+        place: (base + deadline - window) as u32,
+        value,
+    }
 }
 
 impl<'p> Run<'p> {
@@ -57,32 +75,17 @@ impl<'p> Run<'p> {
         let scanner = Scanner {
             window: self.window as u32,
             count: (self.base + self.at) as u32,
-            place: self.place(),
+            place: (self.base + self.deadline - self.window) as u32,
             value: self.value,
         };
         Fed::uncut(scanner, self.at)
     }
 
-    // A cut follows the bytes up to the deadline. The maximum point is the largest byte so far.
+    // A cut follows the bytes up to the deadline.
     pub fn cut(self) -> Fed
         ensures { result ≡ cut_at self.entry }
     {
-        let place = self.place();
-        Fed {
-            refusal: None,
-            scanner: fresh(self.window as u32),
-            consumed: self.deadline,
-            cut: true,
-            place,
-            value: self.value,
-        }
-    }
-
-    // The place of the largest byte so far, counted from 1 in the chunk.
-    fn place(self) -> u32
-        ensures { result ≡ self.entry.base + self.entry.deadline - self.entry.window }
-    {
-        (self.base + self.deadline - self.window) as u32
+        cut(self.window, self.base, self.deadline, self.value)
     }
 
     // Passes one byte, unless the chunk can end with it. Whether the second byte of a chunk is larger than the
@@ -127,15 +130,7 @@ impl<'p> Run<'p> {
             let byte = part[at];
             if byte <= value {
                 if at == last {
-                    let run = Run {
-                        part,
-                        window: self.window,
-                        base: self.base,
-                        deadline: at + 1,
-                        value,
-                        at,
-                    };
-                    return run.cut();
+                    return cut(self.window, self.base, at + 1, value);
                 }
             } else {
                 value = byte;
