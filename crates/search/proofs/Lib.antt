@@ -1,2 +1,2 @@
--- laws/Searching has the laws of a search under way.
+-- laws/Comparing and laws/Standing have the laws of a chunk's bytes at a place, laws/Searching those of a search under way.
 pub mod laws

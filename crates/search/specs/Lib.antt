@@ -1,0 +1,2 @@
+-- Only contracts of this layer cite what is here.
+pub mod internal
