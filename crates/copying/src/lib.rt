@@ -19,13 +19,13 @@ pub fn copy(memory: &mut [u8], at: usize, bytes: &[u8])
 }
 
 // Writes a chunk of the pool to a place of the output, a block at a time, and with it up to 32 bytes that follow it in the
-// pool. So every chunk shorter than a block takes the same branches.
+// pool. The first block is written whatever the length, so that every chunk of up to 32 bytes takes the same branches.
 fn copy_blocks(output: &mut [u8], at: usize, pool: &[u8], from: usize, size: usize)
     requires size_in_bounds { at + size + 32 ≤ length output.old }
     requires size_in_bounds_2 { from + size + 32 ≤ length pool.now }
     ensures { Covered output.old at (at + size + 32) (take size (drop from pool.now)) output.new }
 {
-    for block in 0..size / BLOCK + 1 {
+    for block in 0..size.div_ceil(BLOCK).max(1) {
         let done = block * BLOCK;
         let next = from + done;
         copy(output, at + done, &pool[next..next + BLOCK]);
