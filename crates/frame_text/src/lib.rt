@@ -6,6 +6,7 @@ ghost use Rattle.std.proofs.lemmas.List.Edits.{sets};
 ghost use Rattle.frame_text.specs.Frame.{frame_bytes, digit, hex, frame, last_frame};
 
 use refusal::Refusal;
+use store::{ChunkNumber, JobPosition};
 
 // The bytes of a frame: 22 digits and a line feed.
 pub const FRAME_BYTES: usize = 23;
@@ -33,16 +34,28 @@ fn write_hex(output: &mut [u8], at: usize, width: usize, value: u32)
     }
 }
 
-// The numbers of a frame.
+// The numbers of a frame. Those of the last frame are no chunk's, so they are plain here; a chunk's come with their types.
 #[derive(Clone, Copy)]
 pub struct Frame {
-    pub number: u32,
-    pub position: u32,
-    pub size: u32,
-    pub mark: u8,
+    number: u32,
+    position: u32,
+    size: u32,
+    mark: u8,
 }
 
 impl Frame {
+    // The frame of a chunk.
+    pub fn of_chunk(number: ChunkNumber, position: JobPosition, size: u32, mark: u8) -> Self
+        ensures { result ≡ record { number = number.0; position = position.0; size = size; mark = mark } }
+    {
+        Frame {
+            number: number.0,
+            position: position.0,
+            size,
+            mark,
+        }
+    }
+
     // Writes the frame, and tells where it ends.
     pub fn write(self, output: &mut [u8], at: usize) -> usize
         requires { at + frame_bytes ≤ length output.old }

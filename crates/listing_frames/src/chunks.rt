@@ -8,12 +8,13 @@ ghost use Rattle.listing_frames.specs.internal.Counted.{mark, counted_frames};
 
 use crate::WINDOW;
 use frame_text::{FRAME_BYTES, Frame};
+use store::{ChunkNumber, JobPosition};
 
 // 1 where a chunk is new: it has the number that the next new chunk gets.
-fn mark(number: u32, next: u32) -> u8
-    ensures { result ≡ mark number next }
+fn mark(number: ChunkNumber, next: ChunkNumber) -> u8
+    ensures { result ≡ mark number.0 next.0 }
 {
-    u8::from(number == next)
+    u8::from(number.0 == next.0)
 }
 
 // Writes one frame per chunk of a job, and tells how many bytes they are. The chunks are found once
@@ -30,14 +31,9 @@ pub fn frames(job: &[u8], recipe: &[u32], output: &mut [u8]) -> usize
     let mut at = 0;
     while at < job.len() {
         let size = chunker::next_chunk(WINDOW, &job[at..]).length;
-        let number = recipe[used];
-        let new = mark(number, next);
-        let frame = Frame {
-            number,
-            position: at as u32,
-            size: size as u32,
-            mark: new,
-        };
+        let number = ChunkNumber(recipe[used]);
+        let new = mark(number, ChunkNumber(next));
+        let frame = Frame::of_chunk(number, JobPosition(at as u32), size as u32, new);
         frame.write(output, FRAME_BYTES * used);
         next += u32::from(new);
         used += 1;

@@ -11,8 +11,8 @@ pub bounds-recipe-used : goal.bounds-recipe-used
 bounds-recipe-used c =
     (finds c.loop-at.invariant c.loop-at-test.true c.requires.job_in_bounds _ (ap (λ f. f.length) c.next_chunk-size.ensures)).numbered
 
-pub overflow_cast-frame-in-loop-at : goal.overflow_cast-frame-in-loop-at
-overflow_cast-frame-in-loop-at c =
+pub overflow_cast-size : goal.overflow_cast-size
+overflow_cast-size c =
     let found = finds c.loop-at.invariant c.loop-at-test.true c.requires.job_in_bounds _ (ap (λ f. f.length) c.next_chunk-size.ensures) in
     omega (arith, found.within)
 
@@ -34,7 +34,8 @@ loop-at-smaller c =
 pub loop-at-preserved : goal.loop-at-preserved
 loop-at-preserved c =
     let found = finds c.loop-at.invariant c.loop-at-test.true c.requires.job_in_bounds _ (ap (λ f. f.length) c.next_chunk-size.ensures) in
-    rw c.from-next.ensures (walks_on c.loop-at.invariant found _ c.mark-new.result c.mark-new.ensures c.write.ensures.output_after)
+    rw c.from-next.ensures (walks_on c.loop-at.invariant found _ c.mark-new.result c.mark-new.ensures
+    (rw c.of_chunk-frame.ensures at c.write.ensures.output_after))
 
 pub returns-clause-value : goal.returns-clause-value
 returns-clause-value c = ap (λ n. frame_bytes * n) (walks_all c.loop-at.invariant c.loop-at-test.false)
