@@ -30,8 +30,8 @@ entries-preserved-then-stored-i c =
 pub entries-preserved : goal.entries-preserved
 entries-preserved c =
     sought_alike c.entries.invariant (omega arith) c.if-count-number.false (omega (arith, c.type_inv.index (1024 + c.entries.next)))
-    c.length_of.ensures c.if-length_of-chunk.false c.offset_of-from.ensures (search rules) c.loop-i-test.false c.loop-i.invariant
-    _ (search rules)
+    c.length_of.ensures c.if-length_of-chunk.false c.offset_of-from.ensures {n = c.loop-i.i} (search rules)
+    (omega (arith, c.loop-i-test.false)) c.loop-i.invariant _ (search rules)
 
 pub returns-after-entries : goal.returns-after-entries
 returns-after-entries c = sought_none_left c.entries.invariant (omega arith)

@@ -71,13 +71,13 @@ module _ {part : List ℕ} {w i v : ℕ} where
         gives = λ base o. (goes base o).gives;
       }
 
-  -- it comes to the first of the largest bytes of the window, which ends at e, where one of them is larger than v
-  pub reached_peak : (e : ℕ) (p : Peak) → e ≡ i + w → FirstLargest part i e p → Exceeded part i e v → e ≤ length part
-      → p.value < 256 → Reached part w i v p.after p.value
-  reached_peak e p end f some inside byte =
+  -- it comes to the first of the largest bytes of the window, where one of them is larger than v; d and e are the window's end
+  pub reached_peak : (d e : ℕ) (p : Peak) → d ≡ i + w → e ≡ i + w → FirstLargest part i e p → Exceeded part i d v
+      → e ≤ length part → p.value < 256 → Reached part w i v p.after p.value
+  reached_peak d e p looked end f some inside byte =
       let j = p.after - 1 in
       let after : j + 1 ≡ p.after = omega (arith, f.from) in
-      let larger : v < p.value = omega (arith, some.larger, f.most.bound some.index some.from some.to) in
+      let larger : v < p.value = omega (arith, some.larger, f.most.bound some.index some.from (omega (arith, some.to))) in
       subst (λ x. Reached part w i v x p.value) after
       (subst (λ x. Reached part w i v (j + 1) x) f.is
       (reached_larger j (omega (arith, f.from)) (λ _. omega (arith, f.from, f.to)) (omega (arith, f.from, f.to))

@@ -10,12 +10,12 @@ pub loop-peak-preserved-then-peak-at : goal.loop-peak-preserved-then-peak-at
 loop-peak-preserved-then-peak-at g c =
     reached_then c.loop-peak.invariant
     (reached_then
-    (reached_peak _ c.first_largest-peak.result (omega arith) c.first_largest-peak.ensures
+    (reached_peak _ _ c.first_largest-peak.result (grind arith) (grind arith) c.first_largest-peak.ensures
     (c.any_larger.ensures.some c.if-not-any_larger.false) (omega arith) (omega arith))
     (c.while_larger-peak.ensures _))
 
 pub loop-peak-preserved : goal.loop-peak-preserved
 loop-peak-preserved g c =
     reached_then c.loop-peak.invariant
-    (reached_peak _ c.first_largest-peak.result (omega arith) c.first_largest-peak.ensures
+    (reached_peak _ _ c.first_largest-peak.result (grind arith) (grind arith) c.first_largest-peak.ensures
     (c.any_larger.ensures.some c.if-not-any_larger.false) (omega arith) (omega arith))

@@ -1,5 +1,5 @@
 -- `survey::Lent::survey_chunk` meets its contract: each answer is that of its step.
-use Prim.Native.Nat.{ℕ, ◌/◌, ◌^◌}
+use Prim.Native.Nat.{ℕ, ◌/◌, ◌^◌, ◌≤◌, ◌<◌}
 use native.Mathlib.Omega.{arith}
 use native.Mathlib.Nat.{le_of_eq}
 use lib.ListN.{length, take}
@@ -8,7 +8,8 @@ use mathlib.Core.List.{List}
 use mathlib.Core.Path.{◌≡◌, ap, ◌∙◌}
 use borrow.Author.Tests.{ltb-true, ltb-false, leb-true, leb-false}
 use Rattle.std.proofs.Common.{rules}
-use Rattle.std.specs.Prelude.{Err}
+use Rattle.std.specs.Prelude.{Err, Option, Some, None, MatchOption}
+use Rattle.std.proofs.lemmas.Option.{MatchOption-at_some, MatchOption-at_none}
 use Rattle.refusal.specs.declared.Refusal.TheVariants.{RecipeFull, DirectoryFull, PoolFull}
 use Rattle.refusal.proofs.laws.Tested.{refuses, allows}
 use Rattle.gear.specs.Gear.{sum}
@@ -23,6 +24,14 @@ use Rattle.survey.proofs.Lent.survey_chunk.Goals as goal
 -- the chain of a chunk by its sum
 own_of : {gear : ℕ} (chunk : List ℕ) → gear ≡ sum (take (length chunk) chunk) → gear / 2 ^ 20 ≡ own_chain chunk
 own_of chunk e = ap (λ n. n / 2 ^ 20) (e ∙ ap sum (take-length chunk)) ∙ own_sum chunk
+
+-- what `find` told, where it found a place and where it did not
+module _ {o : Option ℕ} {used first : ℕ} (told : MatchOption o (used ≡ first) (λ place. (place ≡ first) × (place < used))) where
+  place_found : {place : ℕ} → o ≡ Some place → (place ≡ first) × (place < used)
+  place_found e = MatchOption-at_some (used ≡ first) (λ place. (place ≡ first) × (place < used)) _ e told
+
+  none_found : o ≡ None → used ≤ first
+  none_found e = le_of_eq (MatchOption-at_none (used ≡ first) (λ place. (place ≡ first) × (place < used)) e told)
 
 pub returns-in_err-unless-clause-outcome : goal.returns-in_err-unless-clause-outcome
 returns-in_err-unless-clause-outcome c =
@@ -59,7 +68,7 @@ pub returns-in-Some-clause-outcome : goal.returns-in-Some-clause-outcome
 returns-in-Some-clause-outcome c =
     let room = ltb-true _ _ (allows _ _ c.unless.ensures c.in_ok-unless.was) in
     let number = c.search-number.ensures in
-    let place = c.in-Some.ensures in
+    let place = place_found c.find.ensures {place = c.in-Some.place} (search rules) in
     simp (c.with_repeated-in-Some.ensures, c.repeat.ensures, place.0)
     (repeats _ _ _ _ _ c.args.places.now.heads _ room (rw number at c.if-number-stored.false) (rw place.0 at place.1)).0
 
@@ -67,7 +76,7 @@ pub returns-in-Some-clause-heads : goal.returns-in-Some-clause-heads
 returns-in-Some-clause-heads c =
     let room = ltb-true _ _ (allows _ _ c.unless.ensures c.in_ok-unless.was) in
     let number = c.search-number.ensures in
-    let place = c.in-Some.ensures in
+    let place = place_found c.find.ensures {place = c.in-Some.place} (search rules) in
     (repeats _ _ _ _ _ _ _ room (rw number at c.if-number-stored.false) (rw place.0 at place.1)).1
 
 pub returns-in_err-unless-2-clause-outcome : goal.returns-in_err-unless-2-clause-outcome
@@ -76,7 +85,7 @@ returns-in_err-unless-2-clause-outcome c =
     let number = c.search-number.ensures in
     let full = refuses _ _ c.unless-2.ensures c.in_err-unless-2.was in
     let told : c.from_residual-in_err-unless-2.result ≡ Err DirectoryFull = search (rules, full.1) in
-    rw told (directory_full _ _ _ _ _ c.args.places.now.heads _ room (rw number at c.if-number-stored.false) (le_of_eq c.in_default.ensures)
+    rw told (directory_full _ _ _ _ _ c.args.places.now.heads _ room (rw number at c.if-number-stored.false) (none_found c.find.ensures (search rules))
     (rw c.entries-entries.ensures at (ltb-false _ _ full.0))).0
 
 pub returns-in_err-unless-2-clause-heads : goal.returns-in_err-unless-2-clause-heads
@@ -84,7 +93,7 @@ returns-in_err-unless-2-clause-heads c =
     let room = ltb-true _ _ (allows _ _ c.unless.ensures c.in_ok-unless.was) in
     let number = c.search-number.ensures in
     let full = refuses _ _ c.unless-2.ensures c.in_err-unless-2.was in
-    (directory_full _ _ _ _ _ _ _ room (rw number at c.if-number-stored.false) (le_of_eq c.in_default.ensures)
+    (directory_full _ _ _ _ _ _ _ room (rw number at c.if-number-stored.false) (none_found c.find.ensures (search rules))
     (rw c.entries-entries.ensures at (ltb-false _ _ full.0))).1
 
 pub returns-in_err-unless-3-clause-outcome : goal.returns-in_err-unless-3-clause-outcome
@@ -94,7 +103,7 @@ returns-in_err-unless-3-clause-outcome c =
     let entry = ltb-true _ _ (allows _ _ c.unless-2.ensures c.in_ok-unless-2.was) in
     let full = refuses _ _ c.unless-3.ensures c.in_err-unless-3.was in
     let told : c.from_residual-in_err-unless-3.result ≡ Err PoolFull = search (rules, full.1) in
-    rw told (pool_full _ _ _ _ (snapshot c.args.progress c.args.recipe.now) c.args.places.now.heads _ room (rw number at c.if-number-stored.false) (le_of_eq c.in_default.ensures)
+    rw told (pool_full _ _ _ _ (snapshot c.args.progress c.args.recipe.now) c.args.places.now.heads _ room (rw number at c.if-number-stored.false) (none_found c.find.ensures (search rules))
     (rw c.entries-entries.ensures at entry) (omega (arith, leb-false _ _ full.0, c.requires.counted.filled))).0
 
 pub returns-in_err-unless-3-clause-heads : goal.returns-in_err-unless-3-clause-heads
@@ -103,7 +112,7 @@ returns-in_err-unless-3-clause-heads c =
     let number = c.search-number.ensures in
     let entry = ltb-true _ _ (allows _ _ c.unless-2.ensures c.in_ok-unless-2.was) in
     let full = refuses _ _ c.unless-3.ensures c.in_err-unless-3.was in
-    (pool_full _ _ _ _ (snapshot c.args.progress c.args.recipe.now) _ _ room (rw number at c.if-number-stored.false) (le_of_eq c.in_default.ensures)
+    (pool_full _ _ _ _ (snapshot c.args.progress c.args.recipe.now) _ _ room (rw number at c.if-number-stored.false) (none_found c.find.ensures (search rules))
     (rw c.entries-entries.ensures at entry) (omega (arith, leb-false _ _ full.0, c.requires.counted.filled))).1
 
 pub enter-requires-clause-earlier_bound : goal.enter-requires-clause-earlier_bound
@@ -121,7 +130,7 @@ returns-clause-outcome c =
     let entry = ltb-true _ _ (allows _ _ c.unless-2.ensures c.in_ok-unless-2.was) in
     let fits = leb-true _ _ (allows _ _ c.unless-3.ensures c.in_ok-unless-3.was) in
     simp (c.with_new.ensures, c.enter.ensures.mark, own)
-    (appears c.args.self.now.head _ _ _ (snapshot c.args.progress c.args.recipe.now) c.args.places.now.heads _ room (rw number at c.if-number-stored.false) (le_of_eq c.in_default.ensures)
+    (appears c.args.self.now.head _ _ _ (snapshot c.args.progress c.args.recipe.now) c.args.places.now.heads _ room (rw number at c.if-number-stored.false) (none_found c.find.ensures (search rules))
     (rw c.entries-entries.ensures at entry) (omega (arith, fits, c.requires.counted.filled))).0
 
 pub returns-clause-heads : goal.returns-clause-heads
@@ -132,5 +141,5 @@ returns-clause-heads c =
     let entry = ltb-true _ _ (allows _ _ c.unless-2.ensures c.in_ok-unless-2.was) in
     let fits = leb-true _ _ (allows _ _ c.unless-3.ensures c.in_ok-unless-3.was) in
     rw (c.enter.ensures.heads, owns)
-    (appears c.args.self.now.head _ _ _ (snapshot c.args.progress c.args.recipe.now) _ _ room (rw number at c.if-number-stored.false) (le_of_eq c.in_default.ensures)
+    (appears c.args.self.now.head _ _ _ (snapshot c.args.progress c.args.recipe.now) _ _ room (rw number at c.if-number-stored.false) (none_found c.find.ensures (search rules))
     (rw c.entries-entries.ensures at entry) (omega (arith, fits, c.requires.counted.filled))).1
