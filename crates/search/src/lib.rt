@@ -15,7 +15,7 @@ use directory::ChunkNumber;
 const BLOCK: usize = 16;
 
 // Whether a block of the chunk, from `at` on, is not the one at its place. All bytes are compared, without a branch, so that LLVM
-// makes vectors of them: byte by byte the listing's frames of a job that repeats itself take up to 1.4 times as long.
+// makes vectors of them: byte by byte the listing's frames of a job that repeats itself take up to 1.4 times as long to make.
 fn block_differs(bytes: &[u8], from: usize, chunk: &[u8], at: usize) -> bool
     requires chunk_in_bounds { from + length chunk.now ≤ length bytes.now }
     requires at_in_bounds { at + 16 ≤ length chunk.now }

@@ -3,6 +3,8 @@ use native.Mathlib.Omega.{arith}
 use mathlib.Core.Path.{◌≡◌, sym, ap, ◌∙◌}
 use lib.ListN.{length, replicate}
 use lib.Seq.{sets}
+use Rattle.std.proofs.Common.{rules}
+use Rattle.std.specs.Prelude.{Some, None}
 use Rattle.frame_text.specs.Frame.{last_frame}
 use Rattle.refusal.specs.Number.{accepted}
 use Rattle.index.specs.Index.{fresh_index}
@@ -20,7 +22,8 @@ unfolding fresh_index
 returns-in-Some c =
     let asked : Quotation = record { answer = c.quote-quoted.result; recipe = c.quote-quoted.new.recipe } in
     let came : asked ≡ outcome c.args.job.now = rw (fresh_head c.open.result c.open.ensures) at c.quote-quoted.ensures in
-    c.refused-in-Some.ensures ∙ sym (short_listed _ _ c.if-job-gt-LONGEST_JOB.false asked came ∙ rw c.in-Some.is)
+    let ground : c.quote-quoted.result.refusal ≡ Some c.in-Some.ground = search rules in
+    c.refused-in-Some.ensures ∙ sym (short_listed _ _ c.if-job-gt-LONGEST_JOB.false asked came ∙ rw ground)
 
 pub frames-end-requires-clause-job_in_bounds : goal.frames-end-requires-clause-job_in_bounds
 unfolding fresh_index
@@ -30,7 +33,8 @@ frames-end-requires-clause-job_in_bounds c =
     let opens = fresh_head c.open.result c.open.ensures in
     let came : asked ≡ outcome c.args.job.now = rw opens at c.quote-quoted.ensures in
     let stays : took ≡ outcome c.args.job.now = took_listed c.args.job.now asked took came (rw opens at (ap quotation_of c.take-taken.ensures)) in
-    let refusal = ap (λ q. q.answer.refusal) (stays ∙ sym came) ∙ c.in_default.is in
+    let passed : c.quote-quoted.result.refusal ≡ None = search rules in
+    let refusal = ap (λ q. q.answer.refusal) (stays ∙ sym came) ∙ passed in
     let k = accepts (replicate pool_bytes 0) (replicate directory_numbers 0) (fresh_index entry_count) (replicate recipe_places 0) c.args.job.now took stays
     (ap accepted refusal) in
     k.enough
@@ -43,7 +47,8 @@ frames-end-requires-clause-job_in_bounds_2 c =
     let opens = fresh_head c.open.result c.open.ensures in
     let came : asked ≡ outcome c.args.job.now = rw opens at c.quote-quoted.ensures in
     let stays : took ≡ outcome c.args.job.now = took_listed c.args.job.now asked took came (rw opens at (ap quotation_of c.take-taken.ensures)) in
-    let refusal = ap (λ q. q.answer.refusal) (stays ∙ sym came) ∙ c.in_default.is in
+    let passed : c.quote-quoted.result.refusal ≡ None = search rules in
+    let refusal = ap (λ q. q.answer.refusal) (stays ∙ sym came) ∙ passed in
     let k = accepts (replicate pool_bytes 0) (replicate directory_numbers 0) (fresh_index entry_count) (replicate recipe_places 0) c.args.job.now took stays
     (ap accepted refusal) in
     omega (arith, k.enough, c.take-taken.auto.recipe)
@@ -56,7 +61,8 @@ last_frame-written-requires c =
     let opens = fresh_head c.open.result c.open.ensures in
     let came : asked ≡ outcome c.args.job.now = rw opens at c.quote-quoted.ensures in
     let stays : took ≡ outcome c.args.job.now = took_listed c.args.job.now asked took came (rw opens at (ap quotation_of c.take-taken.ensures)) in
-    let refusal = ap (λ q. q.answer.refusal) (stays ∙ sym came) ∙ c.in_default.is in
+    let passed : c.quote-quoted.result.refusal ≡ None = search rules in
+    let refusal = ap (λ q. q.answer.refusal) (stays ∙ sym came) ∙ passed in
     let k = accepts (replicate pool_bytes 0) (replicate directory_numbers 0) (fresh_index entry_count) (replicate recipe_places 0) c.args.job.now took stays
     (ap accepted refusal) in
     omega (arith, k.enough, c.take-taken.auto.recipe, c.frames-end.ensures.value)
@@ -69,7 +75,8 @@ returns c =
     let opens = fresh_head c.open.result c.open.ensures in
     let came : asked ≡ outcome c.args.job.now = rw opens at c.quote-quoted.ensures in
     let stays : took ≡ outcome c.args.job.now = took_listed c.args.job.now asked took came (rw opens at (ap quotation_of c.take-taken.ensures)) in
-    let refusal = ap (λ q. q.answer.refusal) (stays ∙ sym came) ∙ c.in_default.is in
+    let passed : c.quote-quoted.result.refusal ≡ None = search rules in
+    let refusal = ap (λ q. q.answer.refusal) (stays ∙ sym came) ∙ passed in
     let k = accepts (replicate pool_bytes 0) (replicate directory_numbers 0) (fresh_index entry_count) (replicate recipe_places 0) c.args.job.now took stays
     (ap accepted refusal) in
     let last = c.last_frame-written.ensures in

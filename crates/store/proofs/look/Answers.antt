@@ -2,6 +2,7 @@
 use native.Mathlib.Omega.{arith}
 use native.Mathlib.Nat.{add-sub_cancel_left}
 use mathlib.Core.Path.{ap, ◌∙◌}
+use borrow.Author.Rules.{rules}
 use Rattle.refusal.specs.Number.{accepted}
 use Rattle.refusal.proofs.laws.Tested.{fails, passes}
 use Rattle.store.specs.Looking.{shown}
@@ -24,4 +25,4 @@ returns-in-Ok c =
 
 pub returns-in-Err : goal.returns-in-Err
 unfolding shown
-returns-in-Err c = rw (fails c.look_ground.ensures c.in-Err.is)
+returns-in-Err c = rw (fails c.look_ground.ensures c.in-Err.is) (search rules)

@@ -6,8 +6,8 @@ use Rattle.marks.specs.Marks.{code_of, first_base, own_chains, own_chain}
 use Rattle.marks.specs.internal.Kinds.{Says}
 use Rattle.marks.proofs.laws.Sizes.{sizes_fewer}
 use Rattle.marks.proofs.laws.Chains.{own_below}
-use Rattle.marks.proofs.laws.Finding.{shown, finding_starts, finding_none}
-use Rattle.marks.proofs.laws.Following.{says_first, finding_inside, other_size, other_bytes, finding_here, finding_on, finding_less}
+use Rattle.marks.proofs.laws.Finding.{Finding, shown, finding_starts, finding_none}
+use Rattle.marks.proofs.laws.Following.{left, says_first, finding_inside, other_size, other_bytes, finding_here, finding_on, finding_less}
 use Rattle.marks.proofs.Places.find.Goals as goal
 use Rattle.marks.proofs.Places.find.Goals.{then-size_of-chunk+else-stands_at, else-size_of-chunk}
 
@@ -71,15 +71,23 @@ other c =
 earlier : (c : goal.In-First) → c.in-First.earlier ≡ code_of (get_or c.args.recipe.now c.loop-place.place 0) - first_base
 earlier c = omega (arith, c.in-First.ensures)
 
+-- the search goes on there, and the measure falls
+module _ (c : goal.In-First) {next : ℕ} (named : next ≡ code_of (get_or c.args.recipe.now c.loop-place.place 0) - first_base) where
+  goes_on : Finding c.args.job.now c.args.recipe.now c.args.chunk.now c.args.used next
+  goes_on =
+      let pre = c.requires in
+      rw named (finding_on pre.placed.used pre.in_bounds pre.placed.linked c.loop-place.invariant c.loop-place-test.true (other c))
+
+  falls : left c.args.used next < left c.args.used c.loop-place.place
+  falls =
+      let pre = c.requires in
+      rw named (finding_less pre.placed.used pre.in_bounds pre.placed.linked c.loop-place.invariant c.loop-place-test.true (other c))
+
 pub loop-place-smaller : goal.loop-place-smaller
-loop-place-smaller c =
-    let pre = c.requires in
-    rw (earlier c) (finding_less pre.placed.used pre.in_bounds pre.placed.linked c.loop-place.invariant c.loop-place-test.true (other c))
+loop-place-smaller c = falls c (omega (arith, earlier c))
 
 pub loop-place-preserved : goal.loop-place-preserved
-loop-place-preserved c =
-    let pre = c.requires in
-    rw (earlier c) (finding_on pre.placed.used pre.in_bounds pre.placed.linked c.loop-place.invariant c.loop-place-test.true (other c))
+loop-place-preserved c = goes_on c (omega (arith, earlier c))
 
 pub unreachable-requires : goal.unreachable-requires
 unreachable-requires c =

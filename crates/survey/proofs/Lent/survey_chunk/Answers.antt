@@ -28,10 +28,10 @@ own_of chunk e = ap (λ n. n / 2 ^ 20) (e ∙ ap sum (take-length chunk)) ∙ ow
 -- what `find` told, where it found a place and where it did not
 module _ {o : Option ℕ} {used first : ℕ} (told : MatchOption o (used ≡ first) (λ place. (place ≡ first) × (place < used))) where
   place_found : {place : ℕ} → o ≡ Some place → (place ≡ first) × (place < used)
-  place_found e = MatchOption-at_some (used ≡ first) (λ place. (place ≡ first) × (place < used)) _ e told
+  place_found e = MatchOption-at_some _ _ _ e told
 
   none_found : o ≡ None → used ≤ first
-  none_found e = le_of_eq (MatchOption-at_none (used ≡ first) (λ place. (place ≡ first) × (place < used)) e told)
+  none_found e = le_of_eq (MatchOption-at_none _ _ e told)
 
 pub returns-in_err-unless-clause-outcome : goal.returns-in_err-unless-clause-outcome
 returns-in_err-unless-clause-outcome c =
@@ -83,36 +83,40 @@ pub returns-in_err-unless-2-clause-outcome : goal.returns-in_err-unless-2-clause
 returns-in_err-unless-2-clause-outcome c =
     let room = ltb-true _ _ (allows _ _ c.unless.ensures c.in_ok-unless.was) in
     let number = c.search-number.ensures in
+    let none = none_found c.find.ensures (search rules) in
     let full = refuses _ _ c.unless-2.ensures c.in_err-unless-2.was in
     let told : c.from_residual-in_err-unless-2.result ≡ Err DirectoryFull = search (rules, full.1) in
-    rw told (directory_full _ _ _ _ _ c.args.places.now.heads _ room (rw number at c.if-number-stored.false) (none_found c.find.ensures (search rules))
+    rw told (directory_full _ _ _ _ _ c.args.places.now.heads _ room (rw number at c.if-number-stored.false) none
     (rw c.entries-entries.ensures at (ltb-false _ _ full.0))).0
 
 pub returns-in_err-unless-2-clause-heads : goal.returns-in_err-unless-2-clause-heads
 returns-in_err-unless-2-clause-heads c =
     let room = ltb-true _ _ (allows _ _ c.unless.ensures c.in_ok-unless.was) in
     let number = c.search-number.ensures in
+    let none = none_found c.find.ensures (search rules) in
     let full = refuses _ _ c.unless-2.ensures c.in_err-unless-2.was in
-    (directory_full _ _ _ _ _ _ _ room (rw number at c.if-number-stored.false) (none_found c.find.ensures (search rules))
+    (directory_full _ _ _ _ _ _ _ room (rw number at c.if-number-stored.false) none
     (rw c.entries-entries.ensures at (ltb-false _ _ full.0))).1
 
 pub returns-in_err-unless-3-clause-outcome : goal.returns-in_err-unless-3-clause-outcome
 returns-in_err-unless-3-clause-outcome c =
     let room = ltb-true _ _ (allows _ _ c.unless.ensures c.in_ok-unless.was) in
     let number = c.search-number.ensures in
+    let none = none_found c.find.ensures (search rules) in
     let entry = ltb-true _ _ (allows _ _ c.unless-2.ensures c.in_ok-unless-2.was) in
     let full = refuses _ _ c.unless-3.ensures c.in_err-unless-3.was in
     let told : c.from_residual-in_err-unless-3.result ≡ Err PoolFull = search (rules, full.1) in
-    rw told (pool_full _ _ _ _ (snapshot c.args.progress c.args.recipe.now) c.args.places.now.heads _ room (rw number at c.if-number-stored.false) (none_found c.find.ensures (search rules))
+    rw told (pool_full _ _ _ _ (snapshot c.args.progress c.args.recipe.now) c.args.places.now.heads _ room (rw number at c.if-number-stored.false) none
     (rw c.entries-entries.ensures at entry) (omega (arith, leb-false _ _ full.0, c.requires.counted.filled))).0
 
 pub returns-in_err-unless-3-clause-heads : goal.returns-in_err-unless-3-clause-heads
 returns-in_err-unless-3-clause-heads c =
     let room = ltb-true _ _ (allows _ _ c.unless.ensures c.in_ok-unless.was) in
     let number = c.search-number.ensures in
+    let none = none_found c.find.ensures (search rules) in
     let entry = ltb-true _ _ (allows _ _ c.unless-2.ensures c.in_ok-unless-2.was) in
     let full = refuses _ _ c.unless-3.ensures c.in_err-unless-3.was in
-    (pool_full _ _ _ _ (snapshot c.args.progress c.args.recipe.now) _ _ room (rw number at c.if-number-stored.false) (none_found c.find.ensures (search rules))
+    (pool_full _ _ _ _ (snapshot c.args.progress c.args.recipe.now) _ _ room (rw number at c.if-number-stored.false) none
     (rw c.entries-entries.ensures at entry) (omega (arith, leb-false _ _ full.0, c.requires.counted.filled))).1
 
 pub enter-requires-clause-earlier_bound : goal.enter-requires-clause-earlier_bound
@@ -124,22 +128,24 @@ pub returns-clause-outcome : goal.returns-clause-outcome
 returns-clause-outcome c =
     let room = ltb-true _ _ (allows _ _ c.unless.ensures c.in_ok-unless.was) in
     let number = c.search-number.ensures in
+    let none = none_found c.find.ensures (search rules) in
     let owns = c.own_chain-own.ensures.chain ∙ own_of c.args.chunk.now c.sum_to-sum.ensures in
     let shown = firsts c.args.self.now.job.now 0 (take c.args.progress.recipe_length c.args.recipe.now) in
     let own = c.requires.placed.own_heads.each _ c.own_chain-own.ensures.below ∙ ap (λ k. last_of k shown) owns in
     let entry = ltb-true _ _ (allows _ _ c.unless-2.ensures c.in_ok-unless-2.was) in
     let fits = leb-true _ _ (allows _ _ c.unless-3.ensures c.in_ok-unless-3.was) in
     simp (c.with_new.ensures, c.enter.ensures.mark, own)
-    (appears c.args.self.now.head _ _ _ (snapshot c.args.progress c.args.recipe.now) c.args.places.now.heads _ room (rw number at c.if-number-stored.false) (none_found c.find.ensures (search rules))
+    (appears c.args.self.now.head _ _ _ (snapshot c.args.progress c.args.recipe.now) c.args.places.now.heads _ room (rw number at c.if-number-stored.false) none
     (rw c.entries-entries.ensures at entry) (omega (arith, fits, c.requires.counted.filled))).0
 
 pub returns-clause-heads : goal.returns-clause-heads
 returns-clause-heads c =
     let room = ltb-true _ _ (allows _ _ c.unless.ensures c.in_ok-unless.was) in
     let number = c.search-number.ensures in
+    let none = none_found c.find.ensures (search rules) in
     let owns = c.own_chain-own.ensures.chain ∙ own_of c.args.chunk.now c.sum_to-sum.ensures in
     let entry = ltb-true _ _ (allows _ _ c.unless-2.ensures c.in_ok-unless-2.was) in
     let fits = leb-true _ _ (allows _ _ c.unless-3.ensures c.in_ok-unless-3.was) in
     rw (c.enter.ensures.heads, owns)
-    (appears c.args.self.now.head _ _ _ (snapshot c.args.progress c.args.recipe.now) _ _ room (rw number at c.if-number-stored.false) (none_found c.find.ensures (search rules))
+    (appears c.args.self.now.head _ _ _ (snapshot c.args.progress c.args.recipe.now) _ _ room (rw number at c.if-number-stored.false) none
     (rw c.entries-entries.ensures at entry) (omega (arith, fits, c.requires.counted.filled))).1
