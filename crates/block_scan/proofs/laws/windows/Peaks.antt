@@ -71,7 +71,8 @@ module _ {part : List ℕ} {w i v : ℕ} where
         gives = λ base o. (goes base o).gives;
       }
 
-  -- it comes to the first of the largest bytes of the window up to e, where a byte of the window up to d is larger than v
+  -- it comes to the first of the largest bytes of the window, where one of them is larger than v; d and e are the window's end,
+  -- the one where a larger byte was looked for, and the other where the largest was
   pub reached_peak : (d e : ℕ) (p : Peak) → d ≡ i + w → e ≡ i + w → FirstLargest part i e p → Exceeded part i d v
       → e ≤ length part → p.value < 256 → Reached part w i v p.after p.value
   reached_peak d e p looked end f some inside byte =

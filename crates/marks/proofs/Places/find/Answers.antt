@@ -71,7 +71,7 @@ other c =
 earlier : (c : goal.In-First) → c.in-First.earlier ≡ code_of (get_or c.args.recipe.now c.loop-place.place 0) - first_base
 earlier c = omega (arith, c.in-First.ensures)
 
--- the search goes on there, and the measure falls
+-- the search goes on at the place that the mark names, and the measure falls
 module _ (c : goal.In-First) {next : ℕ} (named : next ≡ code_of (get_or c.args.recipe.now c.loop-place.place 0) - first_base) where
   goes_on : Finding c.args.job.now c.args.recipe.now c.args.chunk.now c.args.used next
   goes_on =
